@@ -4,13 +4,14 @@ use mathlib.Core.List.{List}
 use Prim.Native.Nat.{ℕ, ◌*◌, ◌≤◌}
 use native.Mathlib.Omega.{arith}
 use lib.ListN.{length}
+use Rattle.repr.specs.Sizes.{record_limit}
 use Rattle.repr.specs.Reply.{Reply, answered}
 use Rattle.table.proofs.Accepted.{accepts}
 use Rattle.compaction.specs.Outcome.{compact_of}
 use Rattle.compaction.proofs.Called.{left, left-length}
 use Rattle.compaction.proofs.Theorems.{count_most}
 
-pub few_left : (t ws : List ℕ) (r : Reply ℕ) (n : ℕ) → record { answer = r; table = ws } ≡ compact_of t → r ≡ answered n → n * 4 ≤ length ws
+pub few_left : (t ws : List ℕ) (r : Reply ℕ) (n : ℕ) → record { answer = r; table = ws } ≡ compact_of t → r ≡ answered n → (n ≤ record_limit) × (n * 4 ≤ length ws)
 few_left t ws r n e h =
     let o = sym e ∙ ap (λ (a : Reply ℕ). record { answer = a; table = ws }) h in
     let L = left t n ws o in
@@ -20,4 +21,4 @@ few_left t ws r n e h =
     let k = L.count in
     let m = count_most t L.accepted in
     let s = left-length t n ws o in
-    omega arith
+    (omega arith, omega arith)

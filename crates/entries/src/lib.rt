@@ -7,7 +7,7 @@ ghost use Rattle.std.proofs.lemmas.List.Edits.{sets};
 ghost use Rattle.repr.specs.Sizes.{entry_limit, entry_room, entry_place, entries_room};
 ghost use Rattle.error.specs.Numbers.{number_of_class, values_of_class};
 ghost use Rattle.repr.specs.Lists.{joined};
-ghost use Rattle.entries.specs.Entries.{class_words, count_of_values, entry_in, entries_in, entry_words};
+ghost use Rattle.entries.specs.Entries.{class_words, with_entry, count_of_values, entry_in, entries_in, entry_words};
 
 use error::Class;
 
@@ -54,6 +54,7 @@ impl EntryList {
     pub fn push(&mut self, token: u16, class: Class)
         requires { self.old.count < entry_limit }
         ensures count { self.new.count ≡ self.old.count + 1 }
+        ensures words { self.new.words ≡ with_entry self.old.words self.old.count token class }
         ensures entries { entries_in self.new.words self.new.count ≡ entries_in self.old.words self.old.count ++ record { token = token; class = number_of_class class; values = values_of_class class } ∷ [] }
     {
         let at = self.count;

@@ -1,14 +1,15 @@
 -- Laws of the symbol at the cursor as one number (specs/Cursor). Assumes nothing.
-use Rattle.std.specs.Prelude.{◌≡◌, ℕ, suc, ◌+◌, ◌<◌, ◌≤◌, true, eqb, ltb, List, [], ◌∷◌, length, drop}
+use Rattle.std.specs.Prelude.{◌≡◌, ℕ, zero, suc, ◌+◌, ◌<◌, ◌≤◌, true, false, eqb, ltb, List, [], ◌∷◌, length, drop}
 use mathlib.Core.Path.{refl, sym, ap, ◌∙◌}
 use native.Mathlib.Omega.{arith}
 use lib.ListN.{drop_of_length-le}
-use lib.Seq.{drop-drop}
+use lib.Seq.{drop-drop, drop-nil}
 use borrow.Author.Tests.{eqb-true, eq-eqb, ne_eqb, ltb-true, ltb-false}
 use Rattle.repr.specs.Meaning.{Symbol, nonterminal, terminal}
-use Rattle.repr.specs.Listed.{listed}
-use Rattle.repr.specs.Packed.{symbol_words}
+use Rattle.repr.specs.Listed.{symbol_of_kind, listed, list_is_fit}
+use Rattle.repr.specs.Packed.{Packed, symbol_words}
 use Rattle.repr.proofs.Lists.{cases, clash}
+use Rattle.repr.proofs.Listed.{fits_head, symbol_range}
 use Rattle.lr1_core.specs.Items.{first, symbol_sets, is_nonterminal, shifts_nonterminal}
 use Rattle.lr1_core.specs.Cursor.{symbol_code, cursor_code, code_in}
 
@@ -56,6 +57,19 @@ code_is g p i n h = go (drop i (listed (symbol_words g p)))
     go [] = ne_eqb 95 n (λ e. omega arith)
     go (nonterminal m ∷ ys) = refl
     go (terminal t ∷ ys) = ne_eqb (32 + t) n (λ e. omega arith)
+
+-- no number from 32 on is one
+large : (ws : List ℕ) (i n : ℕ) → list_is_fit 32 63 ws ≡ true → 32 ≤ n → false ≡ is_nonterminal n (first (drop i (listed ws)))
+unfolding listed symbol_of_kind first is_nonterminal
+large [] i n f h = rw drop-nil
+large (k ∷ []) i n f h = rw drop-nil
+large (zero ∷ x ∷ ws) zero n f h = let r = (symbol_range 32 63 0 x (fits_head 32 63 (0 ∷ x ∷ ws) 0 (omega arith) f).1.0).1.0 refl in sym (ne_eqb x n (λ e. omega arith))
+large (suc k ∷ x ∷ ws) zero n f h = refl
+large (k ∷ x ∷ ws) (suc i) n f h = large ws i n (fits_head 32 63 (k ∷ x ∷ ws) 0 (omega arith) f).1.1 h
+
+pub code_never : (g : List ℕ) (ps p i n : ℕ) → Packed g ps → p < ps → 32 ≤ n → false ≡ shifts_nonterminal (listed (symbol_words g p)) i n
+unfolding shifts_nonterminal symbol_sets
+code_never g ps p i n P h l = large (symbol_words g p) i n (P.fits p h) l
 
 -- which one it is
 pub cursor_is : (g : List ℕ) (p i c : ℕ) → c ≡ code_in g p i → (n : ℕ) → shifts_nonterminal (listed (symbol_words g p)) i n ≡ true → c ≡ n

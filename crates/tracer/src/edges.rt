@@ -16,7 +16,7 @@ use trace_graph::Full;
 
 // The edge from an item's nonterminal into the item.
 // That the item is the table's is asked at each call, as it is of states and nonterminals: a type for it would have to hold the table, which `Tracer` does, and items are compared and stored without one.
-pub fn to_item(tracer: Tracer, edges: &mut EdgeCodes, item: Item) -> Result<(), Full>
+pub(crate) fn to_item(tracer: Tracer, edges: &mut EdgeCodes, item: Item) -> Result<(), Full>
     requires { ItemFits (meaning tracer.table.words.now) (record { production = item.production; index = item.index }) }
     ensures coded { OnOk result ((es : List TraceEdge) → Coded (meaning tracer.entry.table.words.now) edges.old.words edges.old.flags es → Coded (meaning tracer.entry.table.words.now) edges.new.words edges.new.flags (add (meaning tracer.entry.table.words.now).productions (record { source = at_nonterminal (owner_of (meaning tracer.entry.table.words.now) (record { production = item.production; index = item.index })); target = at_item (record { production = item.production; index = item.index }); label = record { production = item.production; index = item.index } }) es)) }
     ensures full { OnErr result ((es : List TraceEdge) → Coded (meaning tracer.entry.table.words.now) edges.old.words edges.old.flags es → edge_limit < length (add (meaning tracer.entry.table.words.now).productions (record { source = at_nonterminal (owner_of (meaning tracer.entry.table.words.now) (record { production = item.production; index = item.index })); target = at_item (record { production = item.production; index = item.index }); label = record { production = item.production; index = item.index } }) es)) }
@@ -42,7 +42,7 @@ pub fn kind_on(on: bool) -> EdgeKind
 }
 
 // That edge.
-pub fn to_nonterminal(
+pub(crate) fn to_nonterminal(
     tracer: Tracer,
     edges: &mut EdgeCodes,
     on: bool,

@@ -3,5 +3,8 @@ use Rattle.entries.specs.Entries.{entries_in}
 use Rattle.entries.proofs.Laws.{entry_written, entries-more}
 use Rattle.entries.proofs.EntryList.push.Goals as goal
 
+pub returns-clause-words : goal.returns-clause-words
+returns-clause-words c = entry_written _ _ _ _ _ _ c.number_class.ensures c.write_words.ensures
+
 pub returns-clause-entries : goal.returns-clause-entries
 returns-clause-entries c = ap (entries_in _) (add-one c.args.self.now.count) ∙ entries-more _ _ _ _ _ (omega arith) (omega (arith, c.requires)) (entry_written _ _ _ _ _ _ c.number_class.ensures c.write_words.ensures)
