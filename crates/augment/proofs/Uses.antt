@@ -1,6 +1,5 @@
 -- Laws of the search for a nonterminal in right sides. Assumes nothing.
-use Rattle.std.proofs.Common.{◌≡◌, ℕ, zero, suc, Bool, ◌||◌, eqb, List, [], ◌∷◌, map, sym, refl, ap, ◌∙◌, add-one, eq-eqb, ne_eqb, eqb-true}
-use borrow.Author.Tests.{eqb-false}
+use Rattle.std.proofs.Common.{◌≡◌, ℕ, zero, suc, Bool, ◌||◌, eqb, List, [], ◌∷◌, map, sym, refl, ap, ◌∙◌, add-one}
 use Rattle.std.specs.List.{list_any, range_with_len}
 use Rattle.repr.specs.Lists.{up_from, below, some?}
 use Rattle.repr.specs.Meaning.{Symbol, nonterminal, is_same_symbol}
@@ -9,19 +8,13 @@ use Rattle.repr.specs.declared.NonterminalString.{NonterminalString}
 use Rattle.repr.specs.declared.Symbol.{Symbol as Coded}
 use Rattle.repr.specs.declared.Symbol.TheVariants.{Nonterminal, Terminal}
 use Rattle.repr.specs.contracts.SymbolPartialEq.TheImpl.{eq-value}
-use Rattle.repr.proofs.Lists.{cases}
+use Rattle.repr.proofs.Lists.{turned}
 use Rattle.repr.specs.Listed.{listed}
 use Rattle.repr.specs.Packed.{symbol_words, production_in, productions_in}
 use Rattle.repr.proofs.Tests.{some?-nil, some?-cons}
 use Rattle.augment.specs.Started.{uses}
 
 -- the code's comparison with a nonterminal
-turned : (n m : ℕ) → eqb n m ≡ eqb m n
-turned n m =
-    cases (eqb m n)
-    (λ a. eq-eqb n m (sym (eqb-true m n a)) ∙ sym a)
-    (λ a. ne_eqb n m (λ q. eqb-false m n a (sym q)) ∙ sym a)
-
 pub is_nonterminal : (n : NonterminalString) (X : Coded) → eq-value.it X (Nonterminal n) ≡ is_same_symbol (nonterminal n.0) (meant X)
 unfolding is_same_symbol
 is_nonterminal n (Nonterminal m) = turned m.0 n.0

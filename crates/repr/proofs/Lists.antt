@@ -7,7 +7,7 @@ use Prim.Native.Nat.{ℕ, zero, suc, ◌+◌, ◌≤◌, ◌<◌}
 use native.Mathlib.Omega.{arith}
 use lib.ListN.{length, get_or}
 use lib.Dec.{eqb, ltb}
-use borrow.Author.Tests.{eqb-true, eqb-false, eq-eqb, ltb-true, ltb-false, lt-ltb, le-ltb}
+use borrow.Author.Tests.{eqb-true, eqb-false, eq-eqb, ne_eqb, ltb-true, ltb-false, lt-ltb, le-ltb}
 use Rattle.repr.specs.Lists.{up_from, below, mem, occurrences, keep, joined}
 
 -- a test is true or false, with its equation
@@ -18,6 +18,13 @@ cases false f g = g refl
 -- a test that is true is not false
 pub clash {ℓ} : {P : Type ℓ} (b : Bool) → b ≡ true → b ≡ false → P
 clash b e f = absurd (true≢false (sym e ∙ f))
+
+-- a comparison of numbers, turned round
+pub turned : (n m : ℕ) → eqb n m ≡ eqb m n
+turned n m =
+    cases (eqb m n)
+    (λ a. eq-eqb n m (sym (eqb-true m n a)) ∙ sym a)
+    (λ a. ne_eqb n m (λ q. eqb-false m n a (sym q)) ∙ sym a)
 
 -- ranges
 

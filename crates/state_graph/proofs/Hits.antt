@@ -10,7 +10,7 @@ use borrow.Author.Tests.{eqb-true, eqb-false, eq-eqb, ne_eqb, ltb-true, ltb-fals
 use Rattle.repr.specs.Lists.{some?}
 use Rattle.repr.specs.Meaning.{Symbol, is_same_symbol, Edge, Table, TableFits, state_at}
 use Rattle.repr.specs.Listed.{symbol_of_kind, symbol_is_fit}
-use Rattle.repr.proofs.Lists.{cases}
+use Rattle.repr.proofs.Lists.{cases, turned}
 use Rattle.repr.proofs.Listed.{symbol_range}
 use Rattle.repr.proofs.Tests.{some?-nil, some?-cons}
 use Rattle.table.specs.Checked.{Accepted}
@@ -40,12 +40,6 @@ unfolding edges_from
 edges_none t = rw (chain_end t (loose_records t) 0)
 
 -- an edge
-
-turned : (a b : ℕ) → eqb a b ≡ eqb b a
-turned a b =
-    cases (eqb a b)
-    (λ e. e ∙ sym (eq-eqb b a (sym (eqb-true a b e))))
-    (λ e. e ∙ sym (ne_eqb b a (λ q. eqb-false a b e (sym q))))
 
 pub same_words_lem : (n m k x j y : ℕ) → symbol_is_fit n m k x ≡ true → symbol_is_fit n m j y ≡ true → (eqb j k && eqb y x) ≡ is_same_symbol (symbol_of_kind k x) (symbol_of_kind j y)
 unfolding symbol_is_fit symbol_of_kind is_same_symbol

@@ -14,7 +14,7 @@ step_row kind number = kind * nonterminal_limit + number
 abbrev pub step_rows : ℕ
 step_rows = nonterminal_limit + terminal_limit
 
--- fewer than rows, as all of them are made empty at each trace
+-- fewer than rows, as all of them are made empty at each walk
 abbrev pub step_places : ℕ
 step_places = 31
 

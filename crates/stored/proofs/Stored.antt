@@ -2,11 +2,10 @@
 use Rattle.std.proofs.Common.{◌≡◌, ℕ, zero, suc, ◌+◌, ◌-◌, ◌*◌, ◌/◌, ◌%◌, ◌<◌, ◌≤◌, true, false, ◌&&◌, eqb, Option, Some, None, List, [], ◌∷◌, ◌++◌, map, length, get_or, take, drop, set, sym, refl, ap, ◌∙◌, append_assoc, append-nil, add-one, arith, length-append, length-drop, length-set, get_or-drop, get_or-take, get_or-append-add, get_or-set_other, get_or-set_same, eq-eqb, ne_eqb, eqb-true}
 use Rattle.std.proofs.lemmas.List.{length-take-le}
 use lib.ListN.{get_or-append}
-use borrow.Author.Tests.{eqb-false}
 use borrow.Rule.Slice.PartMut.{put_mid}
 use Rattle.repr.specs.Sizes.{index_limit}
 use Rattle.repr.specs.Lists.{up_from}
-use Rattle.repr.proofs.Lists.{cases, up_from-last, length-up_from, length_mapped}
+use Rattle.repr.proofs.Lists.{cases, turned, up_from-last, length-up_from, length_mapped}
 use Rattle.repr.specs.Meaning.{Symbol, is_same_symbol, All}
 use Rattle.repr.specs.Symbols.{meant, IsInRange}
 use Rattle.repr.specs.declared.Symbol.{Symbol as Coded}
@@ -223,12 +222,6 @@ over-split g X e es =
     (λ t. over_no g X e.place e.set es t ∙ rw (over_no g X e.place e.set [] t, over-nil g X))
 
 -- the code's comparison of a cursor's symbol: what is left of the symbols begins with X exactly if it says so
-turned : (n m : ℕ) → eqb n m ≡ eqb m n
-turned n m =
-    cases (eqb m n)
-    (λ a. eq-eqb n m (sym (eqb-true m n a)) ∙ sym a)
-    (λ a. ne_eqb n m (λ q. eqb-false m n a (sym q)) ∙ sym a)
-
 same_symbol : (X Y : Coded) → is_same_symbol (meant X) (meant Y) ≡ eq-value.it Y X
 unfolding is_same_symbol
 same_symbol (Nonterminal n) (Nonterminal m) = turned n.0 m.0
