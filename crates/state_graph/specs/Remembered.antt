@@ -1,8 +1,8 @@
 -- Steps back, as the code keeps them: each of so many places holds none or one that was made. Assumes nothing: these are definitions.
-use Rattle.std.specs.Prelude.{ℕ, ◌+◌, ◌*◌, ◌<◌, ◌≡◌, List, Option, Some, None, length, get_or}
+use Rattle.std.specs.Prelude.{ℕ, ◌+◌, ◌*◌, ◌<◌, ◌≡◌, true, List, Option, Some, None, length, get_or}
 use Rattle.repr.specs.Sizes.{nonterminal_limit, terminal_limit}
 use Rattle.repr.specs.Meaning.{Table}
-use Rattle.repr.specs.Listed.{symbol_of_kind}
+use Rattle.repr.specs.Listed.{symbol_of_kind, symbol_is_fit}
 use Rattle.state_graph.specs.States.{states_in}
 use Rattle.state_graph.specs.Walk.{predecessors}
 use Rattle.state_graph.specs.declared.MadeStep.{MadeStep}
@@ -18,9 +18,9 @@ step_rows = nonterminal_limit + terminal_limit
 abbrev pub step_places : ℕ
 step_places = 31
 
--- what was found is what the step finds in the table
+-- what was found is what the step finds in the table, if its symbol is one of it
 abbrev pub MadeIn : Table → MadeStep → Type 0
-MadeIn T m = states_in m.found.low m.found.high ≡ predecessors T (symbol_of_kind m.kind m.number) (states_in m.from.low m.from.high)
+MadeIn T m = symbol_is_fit (length T.nonterminals) T.terminals m.kind m.number ≡ true → states_in m.found.low m.found.high ≡ predecessors T (symbol_of_kind m.kind m.number) (states_in m.from.low m.from.high)
 
 pub record Remembered (T : Table) (ss : List (Option MadeStep)) : Type 0 where
   pub long : length ss ≡ step_places

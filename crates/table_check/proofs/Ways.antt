@@ -9,7 +9,7 @@ use lib.Dec.{eqb}
 use borrow.Author.Tests.{eq-eqb, ne_eqb, lt-ltb, le-ltb}
 use Rattle.repr.specs.Lists.{below, occurrences, joined}
 use Rattle.repr.proofs.Lists.{cases}
-use Rattle.table.specs.Words.{Area, word_at, productions, production_area, loose_records, production_records, names, against}
+use Rattle.table.specs.Words.{word_at, productions, production_area, loose_records, production_records, names, against}
 use Rattle.table.specs.Decoded.{production_chain, symbol_chain}
 use Rattle.table_check.specs.Rows.{number_of_row}
 use Rattle.table_check.specs.declared.fault.Row.{Row}
@@ -28,10 +28,6 @@ module _ (t : List ℕ) (a : Areas) (A : AreasOf t a) where
   pub loose-area : area a.loose_at a.records ≡ loose_records t
   unfolding loose_records
   loose-area = rw (A.loose_at, A.records)
-
--- an index against the rule of an area
-pub ruled : (a b : Area) (r x : ℕ) {v w : Bool} → a ≡ b → v ≡ against a r x → v ≡ w → against b r x ≡ w
-ruled a b r x e h k = rw (← e, ← h) k
 
 -- ---- the next index of a loose record, as it was read
 module _ (t : List ℕ) (r x : ℕ) (e : x ≡ word_at t r 0) (s i d : Bool) where

@@ -20,7 +20,7 @@ pub struct Areas {
 
 // The records that an index may name: from `from` up to and without `past`.
 #[derive(Clone, Copy)]
-pub(crate) struct Area {
+pub struct Area {
     pub from: usize,
     pub past: usize,
 }
@@ -28,7 +28,7 @@ pub(crate) struct Area {
 impl Area {
     // Whether index x, held by record r, names one of them by the rule.
     #[tactic(auto, unfolding(table::specs::Words::names))]
-    pub(crate) fn names(self, r: usize, x: usize) -> bool
+    pub fn names(self, r: usize, x: usize) -> bool
         ensures { result ≡ names (area self.from self.past) r x }
     {
         self.from <= x && x < self.past && r < x
@@ -36,7 +36,7 @@ impl Area {
 
     // Whether it is against the rule: not 0, and no such name.
     #[tactic(auto, unfolding(table::specs::Words::against))]
-    pub(crate) fn against(self, r: usize, x: usize) -> bool
+    pub fn against(self, r: usize, x: usize) -> bool
         ensures { result ≡ against (area self.from self.past) r x }
     {
         x != 0 && !self.names(r, x)
@@ -53,7 +53,7 @@ pub struct Surveyed<'a> {
 
 impl<'a> Surveyed<'a> {
     // What an index of productions may name.
-    pub(crate) fn productions(self) -> Area
+    pub fn productions(self) -> Area
         ensures records { area result.from result.past ≡ production_records self.entry.words.now }
         ensures within { (result.from ≡ self.entry.areas.productions_at) × (result.past ≡ self.entry.areas.loose_at) }
     {
@@ -64,7 +64,7 @@ impl<'a> Surveyed<'a> {
     }
 
     // What an index of loose records may name.
-    pub(crate) fn loose(self) -> Area
+    pub fn loose(self) -> Area
         ensures records { area result.from result.past ≡ loose_records self.entry.words.now }
         ensures within { (result.from ≡ self.entry.areas.loose_at) × (result.past ≡ self.entry.areas.records) }
     {
@@ -72,6 +72,22 @@ impl<'a> Surveyed<'a> {
             from: self.areas.loose_at,
             past: self.areas.records,
         }
+    }
+
+    // Whether word k of record r, an index of productions, is against the rule. (Which word is a number, asked here and below, as by `word` of crate table.)
+    pub fn bad_production_index(self, r: usize, k: usize) -> bool
+        requires { (r < self.areas.records) × (k < 4) }
+        ensures { result ≡ against (production_records self.entry.words.now) r (word_at self.entry.words.now r k) }
+    {
+        self.productions().against(r, word(self.words, r, k))
+    }
+
+    // The same of an index of loose records.
+    pub fn bad_loose_index(self, r: usize, k: usize) -> bool
+        requires { (r < self.areas.records) × (k < 4) }
+        ensures { result ≡ against (loose_records self.entry.words.now) r (word_at self.entry.words.now r k) }
+    {
+        self.loose().against(r, word(self.words, r, k))
     }
 }
 
@@ -93,20 +109,12 @@ pub(crate) struct Record<'a> {
 }
 
 impl<'a> Record<'a> {
-    // Its word k. (Which word is a number, asked here and below, as by `word` of crate table.)
+    // Its word k.
     pub(crate) fn word(self, k: usize) -> usize
         requires { k < 4 }
         ensures { result ≡ word_at self.entry.gathered.surveyed.words.now self.entry.r k }
     {
         word(self.gathered.surveyed.words, self.r, k)
-    }
-
-    // Whether word k, an index into the area, is against the rule.
-    pub(crate) fn against(self, named: Area, k: usize) -> bool
-        requires { k < 4 }
-        ensures { result ≡ against (area named.from named.past) self.entry.r (word_at self.entry.gathered.surveyed.words.now self.entry.r k) }
-    {
-        named.against(self.r, self.word(k))
     }
 
     // Whether word k, which is to be spare, is used: not 0.

@@ -24,7 +24,7 @@ impl<'a> Record<'a> {
     fn nonterminal_fault(self) -> Option<Row>
         ensures { number_of_fault result ≡ fault_of_nonterminal self.entry.gathered.surveyed.words.now self.entry.r }
     {
-        if self.against(self.gathered.surveyed.productions(), 0) {
+        if self.gathered.surveyed.bad_production_index(self.r, 0) {
             return Some(Row::Chain);
         }
         if self.used(1) || self.used(2) || self.used(3) {
@@ -38,8 +38,8 @@ impl<'a> Record<'a> {
     fn state_fault(self) -> Option<Row>
         ensures { number_of_fault result ≡ fault_of_state self.entry.gathered.surveyed.words.now self.entry.r }
     {
-        let loose = self.gathered.surveyed.loose();
-        if self.against(loose, 0) || self.against(loose, 1) {
+        let s = self.gathered.surveyed;
+        if s.bad_loose_index(self.r, 0) || s.bad_loose_index(self.r, 1) {
             return Some(Row::Chain);
         }
         if self.used(2) || self.used(3) {
@@ -54,10 +54,11 @@ impl<'a> Record<'a> {
         ensures { number_of_fault result ≡ fault_of_production self.entry.gathered.surveyed.words.now self.entry.r }
     {
         let g = self.gathered;
-        if self.against(g.surveyed.productions(), 0) || self.against(g.surveyed.loose(), 1) {
+        let s = g.surveyed;
+        if s.bad_production_index(self.r, 0) || s.bad_loose_index(self.r, 1) {
             return Some(Row::Chain);
         }
-        let p = self.r - g.surveyed.areas.productions_at;
+        let p = self.r - s.areas.productions_at;
         if g.held[p] != 1 {
             return Some(Row::Owner);
         }

@@ -24,7 +24,7 @@ pub struct Marks<const N: usize> {
 }
 
 // The heads in word k of the n records from `first` on: both words of a state are heads, of items and of edges.
-fn mark_heads(s: Surveyed, first: usize, n: usize, k: usize, marks: &mut [u64])
+pub fn mark_heads(s: Surveyed, first: usize, n: usize, k: usize, marks: &mut [u64])
     requires { (first + n ≤ s.areas.loose_at) × ((k < 2) × Blank s.words.now marks.old) }
     ensures { Passed s.entry.words.now first n k n (loose s.entry.words.now) marks.new }
 {
@@ -37,7 +37,7 @@ fn mark_heads(s: Surveyed, first: usize, n: usize, k: usize, marks: &mut [u64])
 }
 
 // Whether record r is marked; if so, its next index x, which is by the rule, is marked too. From whatever heads the marks began.
-fn mark_next(marks: &mut [u64], r: usize, x: usize) -> bool
+pub fn mark_next(marks: &mut [u64], r: usize, x: usize) -> bool
     requires { (r / 64 < length marks.old) × (x / 64 < length marks.old) }
     ensures value { result ≡ bit_at marks.old r }
     ensures by_index { (t : List ℕ) (first n k : ℕ)

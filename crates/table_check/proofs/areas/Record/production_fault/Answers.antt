@@ -1,26 +1,27 @@
-use Rattle.table_check.proofs.Ways.{ruled, production_1, production_2, production_3, production_4, production_5}
+use Rattle.table_check.proofs.Ways.{production_1, production_2, production_3, production_4, production_5}
+use mathlib.Core.Path.{sym, ◌∙◌}
 use native.Mathlib.Omega.{arith}
 use Rattle.table_check.proofs.areas.Record.production_fault.Goals as goal
-use Rattle.table_check.proofs.areas.Record.production_fault.Goals.{then-against-via-then-against, then-against-via-else-against+then-against-2}
+use Rattle.table_check.proofs.areas.Record.production_fault.Goals.{then-bad_production_index-via-then-bad_production_index, then-bad_production_index-via-else-bad_production_index+then-bad_loose_index}
 
-pub returns-then-against : goal.returns-then-against
-returns-then-against c = elim c.then-against.branch [
-  | then-against-via-then-against w ↦ production_1 _ _ (ruled _ _ _ _ c.productions.ensures.records c.against.ensures w.if-against.true)
-  | then-against-via-else-against+then-against-2 w ↦ production_2 _ _ (ruled _ _ _ _ c.productions.ensures.records c.against.ensures w.if-against.false)
-      (ruled _ _ _ _ w.loose.ensures.records w.against-else-against.ensures w.if-against-2.true)
+pub returns-then-bad_production_index : goal.returns-then-bad_production_index
+returns-then-bad_production_index c = elim c.then-bad_production_index.branch [
+  | then-bad_production_index-via-then-bad_production_index w ↦ production_1 _ _ (sym c.bad_production_index.ensures ∙ w.if-bad_production_index.true)
+  | then-bad_production_index-via-else-bad_production_index+then-bad_loose_index w ↦ production_2 _ _ (sym c.bad_production_index.ensures ∙ w.if-bad_production_index.false)
+      (sym w.bad_loose_index.ensures ∙ w.if-bad_loose_index.true)
 ]
 
 pub returns-then-g-p-ne1 : goal.returns-then-g-p-ne1
 returns-then-g-p-ne1 c = let A = c.args.self.gathered.surveyed.of in
-    production_3 _ _ (ruled _ _ _ _ c.productions.ensures.records c.against.ensures c.if-against.false) (ruled _ _ _ _ c.loose.ensures.records c.against-else-against.ensures c.if-against-2.false)
+    production_3 _ _ (sym c.bad_production_index.ensures ∙ c.if-bad_production_index.false) (sym c.bad_loose_index.ensures ∙ c.if-bad_loose_index.false)
     _ (omega arith) (omega arith) _ c.args.self.gathered.known.held c.if-g-p-ne1.true
 
 pub returns-then-g-p-gt-SYMBOLS : goal.returns-then-g-p-gt-SYMBOLS
 returns-then-g-p-gt-SYMBOLS c = let A = c.args.self.gathered.surveyed.of in
-    production_4 _ _ (ruled _ _ _ _ c.productions.ensures.records c.against.ensures c.if-against.false) (ruled _ _ _ _ c.loose.ensures.records c.against-else-against.ensures c.if-against-2.false)
+    production_4 _ _ (sym c.bad_production_index.ensures ∙ c.if-bad_production_index.false) (sym c.bad_loose_index.ensures ∙ c.if-bad_loose_index.false)
     _ (omega arith) (omega arith) _ c.args.self.gathered.known.held c.if-g-p-ne1.false _ c.args.self.gathered.known.lengths c.if-g-p-gt-SYMBOLS.true
 
 pub returns : goal.returns
 returns c = let A = c.args.self.gathered.surveyed.of in
-    production_5 _ _ (ruled _ _ _ _ c.productions.ensures.records c.against.ensures c.if-against.false) (ruled _ _ _ _ c.loose.ensures.records c.against-else-against.ensures c.if-against-2.false)
+    production_5 _ _ (sym c.bad_production_index.ensures ∙ c.if-bad_production_index.false) (sym c.bad_loose_index.ensures ∙ c.if-bad_loose_index.false)
     _ (omega arith) (omega arith) _ c.args.self.gathered.known.held c.if-g-p-ne1.false _ c.args.self.gathered.known.lengths c.if-g-p-gt-SYMBOLS.false
