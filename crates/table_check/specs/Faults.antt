@@ -69,10 +69,6 @@ unfoldable pub first_by : (ℕ → ℕ → Bool) → ℕ → List ℕ → Checke
 first_by off k [] = Accepted
 first_by off k (n ∷ ns) = elim (first? (off n) (below k)) [ some r ↦ Refused n r | none ↦ first_by off k ns ]
 
--- a row that comes before the best so far; 0 is none
-unfoldable pub better : ℕ → ℕ → Bool
-better m row = not (eqb m 0) && (eqb row 0 || ltb m row)
-
 -- of the first r records: the lowest row that one meets by f, 0 for none, and the first record that meets it
 pub record Best (f : ℕ → ℕ) (r row place : ℕ) : Type 0 where
   pub none : row ≡ 0 → (j : ℕ) → j < r → f j ≡ 0
