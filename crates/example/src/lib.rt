@@ -70,6 +70,13 @@ pub struct Expected {
     pub asked: usize,
 }
 
+// How many labels the words hold, whatever they are.
+pub fn label_count(labels: &[u16]) -> usize
+    ensures { (result ≡ length (labels_in labels.now)) × (label_room * result ≤ length labels.now) }
+{
+    labels.len() / Example::LABEL_WORDS
+}
+
 // The labels of an example, innermost first, three words each: nonterminal, production, index. At least one and at most 33, in range of the grammar.
 // In words, since a side keeps them so (crate outline): labels of three fields each would be converted at every keeping.
 // Which one is asked is its number, in range at each call, as a type for it would have to hold the labels: prefixes are asked from the last label on, the cursor and the empty mark of the first alone, so that an iterator would be a second way to the same words.
@@ -85,7 +92,7 @@ impl<'a> Labels<'a> {
     pub fn count(self) -> usize
         ensures { (result ≡ length (labels_in self.entry.words.now)) × (label_room * result ≤ length self.entry.words.now) }
     {
-        self.words.len() / Example::LABEL_WORDS
+        label_count(self.words)
     }
 
     // The nonterminal of a label.

@@ -44,7 +44,7 @@ use trace::reduce::suffix_ends;
 use trace_graph::Full;
 use tracer::reduce::Reduction;
 use tracer::{Action, OpenTrace, TracedItem, Tracer, trace_codes};
-use view::View;
+use view::{EdgeLabels, View};
 use view::making::ViewLists;
 
 // What tracing and listing read beside the table and its productions, made once for a table: FIRST sets, the least equal productions, which items have a nullable suffix.
@@ -196,18 +196,18 @@ fn traces_shift(action: Action) -> bool
 fn keep_trial(
     grammar: Grammar,
     shift: bool,
-    view: View,
+    edges: EdgeLabels,
     words: &[u16],
     side: &mut Side,
     count: usize,
     turn: usize,
 )
-    requires tried { (es : List TraceEdge) × Tried (productions_in grammar.words.now grammar.productions) es view.owners.now view.codes.now words.now }
+    requires tried { (es : List TraceEdge) × Tried (productions_in grammar.words.now grammar.productions) es edges.owners.now edges.codes.now words.now }
     requires count_in_bounds { (count < example_limit) × (turn < example_limit) }
-    ensures { (es : List TraceEdge) → Tried (productions_in grammar.entry.words.now grammar.entry.productions) es view.entry.owners.now view.entry.codes.now words.now → (p rest : List ℕ) → words.now ≡ trial_words p ++ rest → PutBehind (productions_in grammar.entry.words.now grammar.entry.productions) shift (labels_of (productions_in grammar.entry.words.now grammar.entry.productions) es p) turn count side.old.kept side.old.prints side.new.kept side.new.prints }
+    ensures { (es : List TraceEdge) → Tried (productions_in grammar.entry.words.now grammar.entry.productions) es edges.entry.owners.now edges.entry.codes.now words.now → (p rest : List ℕ) → words.now ≡ trial_words p ++ rest → PutBehind (productions_in grammar.entry.words.now grammar.entry.productions) shift (labels_of (productions_in grammar.entry.words.now grammar.entry.productions) es p) turn count side.old.kept side.old.prints side.new.kept side.new.prints }
 {
     let mut room = [0u16; Example::ALL_LABEL_WORDS];
-    let labels = read_labels(grammar, view, words, &mut room);
+    let labels = read_labels(grammar, edges, words, &mut room);
     side.keep(outline_of(labels, shift), turn, count);
     if count < Outline::LABELLED {
         side.keep_labels(labels.words, count);
@@ -222,9 +222,9 @@ fn list_outlines(
     side: &mut Side,
     count: usize,
 ) -> Result<Gathered, Refusal>
-    requires listable { (es : List TraceEdge) × ((start : ItemOf) × Listable (productions_in filter.grammar.words.now filter.grammar.productions) es view.owners.now view.codes.now view.sources.now view.older.now view.latest.now start) }
+    requires listable { (es : List TraceEdge) × ((start : ItemOf) × Listable (productions_in filter.grammar.words.now filter.grammar.productions) es view.labels.owners.now view.labels.codes.now view.sources.bytes.now view.older.now view.latest.now start) }
     requires count_in_bounds { count ≤ example_limit }
-    ensures listed_on { (es : List TraceEdge) (start : ItemOf) → Listable (productions_in filter.entry.grammar.words.now filter.entry.grammar.productions) es view.entry.owners.now view.entry.codes.now view.entry.sources.now view.entry.older.now view.entry.latest.now start → ListedOn (productions_in filter.entry.grammar.words.now filter.entry.grammar.productions) shift result count side.old.kept side.old.prints side.new.kept side.new.prints (listed_by filter.entry.sets.now.terminals filter.entry.sets.now.map (productions_in filter.entry.grammar.words.now filter.entry.grammar.productions) es (set_of filter.entry.lookahead) start count) }
+    ensures listed_on { (es : List TraceEdge) (start : ItemOf) → Listable (productions_in filter.entry.grammar.words.now filter.entry.grammar.productions) es view.entry.labels.owners.now view.entry.labels.codes.now view.entry.sources.bytes.now view.entry.older.now view.entry.latest.now start → ListedOn (productions_in filter.entry.grammar.words.now filter.entry.grammar.productions) shift result count side.old.kept side.old.prints side.new.kept side.new.prints (listed_by filter.entry.sets.now.terminals filter.entry.sets.now.map (productions_in filter.entry.grammar.words.now filter.entry.grammar.productions) es (set_of filter.entry.lookahead) start count) }
     ensures trials_in { TrialsIn trial_limit result }
 {
     let mut words = [0u16; View::TRIAL];
@@ -240,7 +240,7 @@ fn list_outlines(
                 keep_trial(
                     filter.grammar,
                     shift,
-                    view,
+                    view.labels,
                     &words,
                     side,
                     count + turn,
@@ -355,9 +355,9 @@ pub fn action_examples(case: TableConflict, side: &mut Side) -> Result<Gathered,
 
 // From no edge on, past `wanted` examples of a listing: whether the words hold the next.
 fn find_example(filter: Filter, view: View, words: &mut [u16], wanted: usize) -> bool
-    requires listable { (es : List TraceEdge) × ((start : ItemOf) × Listable (productions_in filter.grammar.words.now filter.grammar.productions) es view.owners.now view.codes.now view.sources.now view.older.now view.latest.now start) }
+    requires listable { (es : List TraceEdge) × ((start : ItemOf) × Listable (productions_in filter.grammar.words.now filter.grammar.productions) es view.labels.owners.now view.labels.codes.now view.sources.bytes.now view.older.now view.latest.now start) }
     requires by_index { (rest : List ℕ) × (words.old ≡ trial_words [] ++ rest) }
-    ensures { (es : List TraceEdge) (start : ItemOf) → Listable (productions_in filter.entry.grammar.words.now filter.entry.grammar.productions) es view.entry.owners.now view.entry.codes.now view.entry.sources.now view.entry.older.now view.entry.latest.now start → Finds (productions_in filter.entry.grammar.words.now filter.entry.grammar.productions) es view.entry.owners.now view.entry.codes.now result (λ k. listed_by filter.entry.sets.now.terminals filter.entry.sets.now.map (productions_in filter.entry.grammar.words.now filter.entry.grammar.productions) es (set_of filter.entry.lookahead) start k) wanted words.new }
+    ensures { (es : List TraceEdge) (start : ItemOf) → Listable (productions_in filter.entry.grammar.words.now filter.entry.grammar.productions) es view.entry.labels.owners.now view.entry.labels.codes.now view.entry.sources.bytes.now view.entry.older.now view.entry.latest.now start → Finds (productions_in filter.entry.grammar.words.now filter.entry.grammar.productions) es view.entry.labels.owners.now view.entry.labels.codes.now result (λ k. listed_by filter.entry.sets.now.terminals filter.entry.sets.now.map (productions_in filter.entry.grammar.words.now filter.entry.grammar.productions) es (set_of filter.entry.lookahead) start k) wanted words.new }
 {
     // Counted beside the searches: with a range the last search would stand once more behind the loop.
     let mut left = wanted;
@@ -395,7 +395,7 @@ fn item_again(item: TableItem, wanted: usize, buffer: &mut [u16])
         let mut trial = [0u16; View::TRIAL];
         let filter = item.given.filter(item.lookahead);
         if find_example(filter, view, &mut trial, wanted) {
-            write_trial(grammar, view, &trial, buffer);
+            write_trial(grammar, view.labels, &trial, buffer);
         }
     }
 }

@@ -131,7 +131,7 @@ impl<'a> Over<'a> {
     fn of(grammar: Grammar<'a>, terminals: u16, graph: Graph<'a>, view: View<'a>) -> Over<'a>
         requires { terminals ≤ 63 }
         ensures table { (result.grammar.words.now ≡ grammar.entry.words.now) × (result.grammar.productions ≡ grammar.entry.productions) × (result.terminals ≡ terminals) }
-        ensures graph { (result.graph.words.now ≡ graph.entry.words.now) × (result.view.sources.now ≡ view.entry.sources.now) × (result.view.older.now ≡ view.entry.older.now) × (result.view.latest.now ≡ view.entry.latest.now) × (result.view.owners.now ≡ view.entry.owners.now) × (result.view.codes.now ≡ view.entry.codes.now) }
+        ensures graph { (result.graph.words.now ≡ graph.entry.words.now) × (result.view.sources.bytes.now ≡ view.entry.sources.bytes.now) × (result.view.older.now ≡ view.entry.older.now) × (result.view.latest.now ≡ view.entry.latest.now) × (result.view.labels.owners.now ≡ view.entry.labels.owners.now) × (result.view.labels.codes.now ≡ view.entry.labels.codes.now) }
     {
         Over {
             grammar,
@@ -181,7 +181,7 @@ fn find_next(
     scratch: &mut [u16],
     buffer: &mut [u16],
 ) -> Result<Advanced, Refusal>
-    requires viewing { Viewing (edges_in over.graph.words.now) (record { production = listing.old.production.0; index = listing.old.index }) over.view.sources.now over.view.older.now over.view.latest.now × Labelled (productions_in over.grammar.words.now over.grammar.productions) (edges_in over.graph.words.now) over.view.owners.now over.view.codes.now }
+    requires viewing { Viewing (edges_in over.graph.words.now) (record { production = listing.old.production.0; index = listing.old.index }) over.view.sources.bytes.now over.view.older.now over.view.latest.now × Labelled (productions_in over.grammar.words.now over.grammar.productions) (edges_in over.graph.words.now) over.view.labels.owners.now over.view.labels.codes.now }
     requires scratch_words_in_bounds { (scratch_words ≤ length scratch.old) × (example_room ≤ length buffer.old) }
     requires is_open_value { (listing.old.is_open ≡ true) × (lost (edges_in over.graph.words.now) listing.old scratch.old ≡ false) }
     ensures { (n : ℕ) (T : Table) → Read T n over.entry.terminals (productions_in over.entry.grammar.words.now over.entry.grammar.productions) → outcome (reply_of result) listing.new scratch.new buffer.new ≡ found_outcome T (edges_in over.entry.graph.words.now) listing.old scratch.old buffer.old (search (hands T (edges_in over.entry.graph.words.now) (set_of listing.old.lookahead)) (trial_limit - listing.old.count) listing.old.count (rest_of listing.old.count scratch.old (trials (ends_of (edges_in over.entry.graph.words.now)) (at_item (start_of listing.old))))) }
@@ -197,7 +197,7 @@ fn find_next(
     begin(scratch, count);
     match search(filter, over.view, scratch, count) {
         Searched::Hit(number) => {
-            write_trial(over.grammar, over.view, scratch, buffer);
+            write_trial(over.grammar, over.view.labels, scratch, buffer);
             listing.count = number;
             Ok(Advanced::Example)
         }
@@ -221,7 +221,7 @@ fn go_on(
     scratch: &mut [u16],
     buffer: &mut [u16],
 ) -> Result<Advanced, Refusal>
-    requires listable { Listable (productions_in over.grammar.words.now over.grammar.productions) over.graph.words.now listing.old.production.0 listing.old.index over.view.owners.now over.view.codes.now over.view.sources.now over.view.older.now over.view.latest.now }
+    requires listable { Listable (productions_in over.grammar.words.now over.grammar.productions) over.graph.words.now listing.old.production.0 listing.old.index over.view.labels.owners.now over.view.labels.codes.now over.view.sources.bytes.now over.view.older.now over.view.latest.now }
     requires scratch_words_in_bounds { (scratch_words ≤ length scratch.old) × (example_room ≤ length buffer.old) }
     ensures { (n : ℕ) (T : Table) → Read T n over.entry.terminals (productions_in over.entry.grammar.words.now over.entry.grammar.productions) → asked T (start_of listing.old) (set_of listing.old.lookahead) over.entry.graph.words.now ≡ true → outcome (reply_of result) listing.new scratch.new buffer.new ≡ advance_in over.entry.graph.words.now listing.old scratch.old buffer.old T }
 {

@@ -2,7 +2,9 @@
 
 #![tactic(auto)]
 
-ghost use Rattle.view.specs.View.{Tidy};
+ghost use Rattle.std.specs.Prelude.{◌≡◌};
+ghost use Rattle.repr.specs.Sizes.{nonterminal_limit, edge_limit};
+ghost use Rattle.view.specs.View.{Bounded, latest_room};
 
 use example::Example;
 use repr::NonterminalString;
@@ -11,17 +13,29 @@ use trace_graph::TraceGraph;
 pub mod machine;
 pub mod making;
 
-// A view's lists. By edge: where it comes from (one more than the nonterminal, or 0 for an item) and the next older edge into the same node; by node (the nonterminals, the start item, one word for
-// all other items) the latest edge into it; by edge, for the labels, the nonterminal that it comes from and its item in one word. Its numbers are in range, whatever graph it is of.
-// 0 for none: of Options `older` would be more than 2,000 words (tests/arrays.py).
+// By edge where it comes from: one more than the nonterminal, or 0 for an item. The bytes are in range, whatever graph they are of.
 #[derive(Clone, Copy)]
-pub struct View<'a> {
-    pub sources: &'a [u8],
-    pub older: &'a [u16],
-    pub latest: &'a [u16],
+pub struct Sources<'a> {
+    pub bytes: &'a [u8],
+    pub ghost bounded: { Bounded edge_limit nonterminal_limit bytes.now },
+}
+
+// By edge its label: the nonterminal that it comes from, and its item in one word.
+#[derive(Clone, Copy)]
+pub struct EdgeLabels<'a> {
     pub owners: &'a [u8],
     pub codes: &'a [u16],
-    pub ghost tidy: { Tidy sources.now older.now latest.now },
+}
+
+// A view's lists. By edge: where it comes from, the next older edge into the same node, and its label; by node (the nonterminals, the start item, one word for all other items) the latest edge into it.
+// Its numbers are in range, whatever graph it is of. 0 for none: of Options `older` would be more than 2,000 words (tests/arrays.py).
+#[derive(Clone, Copy)]
+pub struct View<'a> {
+    pub sources: Sources<'a>,
+    pub older: &'a [u16],
+    pub latest: &'a [u16],
+    pub labels: EdgeLabels<'a>,
+    pub ghost linked: { Bounded edge_limit edge_limit older.now × Bounded latest_room edge_limit latest.now },
 }
 
 impl<'a> View<'a> {

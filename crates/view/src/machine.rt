@@ -7,7 +7,7 @@ ghost use Rattle.view.specs.View.{Bounded, Tidy};
 ghost use Rattle.view.specs.Trial.{trial_room, trial_words, Held, Fitting, step_words};
 ghost use Rattle.view.specs.Steps.{joined_by, back_by, seek_by, next_by, example_by, CountedWalk, CountedEdges};
 
-use crate::View;
+use crate::{Sources, View};
 use repr::word;
 
 // One edge more. (That an edge's number is in range is asked here and below: a type for it would be made of each word that is read.)
@@ -60,21 +60,21 @@ fn last(words: &[u16]) -> Option<usize>
     }
 }
 
-impl<'a> View<'a> {
+impl<'a> Sources<'a> {
     // The nonterminal that an edge comes from, or none where it comes from an item.
     fn source(self, edge: usize) -> Option<usize>
         requires edge_lt_edge_limit { edge < edge_limit }
-        ensures { MatchOption result (get_or self.entry.sources.now edge 0 ≡ 0) (λ n. (get_or self.entry.sources.now edge 0 ≡ suc n) × (n < nonterminal_limit)) }
+        ensures { MatchOption result (get_or self.entry.bytes.now edge 0 ≡ 0) (λ n. (get_or self.entry.bytes.now edge 0 ≡ suc n) × (n < nonterminal_limit)) }
     {
-        let sources = self.sources;
-        (sources[edge] as usize).checked_sub(1)
+        let bytes = self.bytes;
+        (bytes[edge] as usize).checked_sub(1)
     }
 
     // An edge joins the walk: the nonterminal that it comes from counts one more. A walk has at most 33 edges, so a byte holds a count.
     fn join(self, edge: usize, counts: &mut [u8])
         requires edge_lt_edge_limit { edge < edge_limit }
         requires by_index { (us : List ℕ) × (length us ≤ reduction_limit) × Counted us counts.old }
-        ensures { (us : List ℕ) → Counted us counts.old → Counted (joined_by (get_or self.entry.sources.now edge 0) us) counts.new }
+        ensures { (us : List ℕ) → Counted us counts.old → Counted (joined_by (get_or self.entry.bytes.now edge 0) us) counts.new }
     {
         if let Some(nonterminal) = self.source(edge) {
             counts[nonterminal] += 1;
@@ -84,8 +84,8 @@ impl<'a> View<'a> {
     // The last edge leaves the walk: the nonterminal that it comes from counts one fewer.
     fn leave(self, words: &[u16], counts: &mut [u8])
         requires held { Held words.now }
-        requires counted_edges { CountedEdges self.sources.now words.now counts.old }
-        ensures { CountedWalk self.entry.sources.now words.now counts.new }
+        requires counted_edges { CountedEdges self.bytes.now words.now counts.old }
+        ensures { CountedWalk self.entry.bytes.now words.now counts.new }
     {
         let Some(edge) = last(words) else {
             return;
@@ -99,19 +99,29 @@ impl<'a> View<'a> {
     pub fn count_walk(self, words: &[u16], counts: &mut [u8])
         requires held { Held words.now }
         requires counted { Counted [] counts.old }
-        ensures { CountedWalk self.entry.sources.now words.now counts.new }
+        ensures { CountedWalk self.entry.bytes.now words.now counts.new }
     {
         for at in 1..word(words, 0) {
             self.join(word(words, at), counts);
         }
     }
 
+    // Whether the trial is an example: its last edge comes from an item.
+    pub fn is_example(self, words: &[u16]) -> bool
+        requires held { Held words.now }
+        ensures { (st rest : List ℕ) → words.now ≡ trial_words (reverse st) ++ rest → result ≡ example_by self.entry.bytes.now st }
+    {
+        matches!(last(words), Some(edge) if self.source(edge).is_none())
+    }
+}
+
+impl<'a> View<'a> {
     // The last edge gives way to the next older one into the same node; where there is none it is taken off, the edge before it leaves the walk, and gives way.
     fn back(self, words: &mut [u16], counts: &mut [u8]) -> bool
         requires held { Held words.old }
-        requires counted_walk { CountedWalk self.sources.now words.old counts.old }
+        requires counted_walk { CountedWalk self.sources.bytes.now words.old counts.old }
         ensures by_index { (st rest : List ℕ) → words.old ≡ trial_words (reverse st) ++ rest → stepped result words.new ≡ step_words (back_by self.entry.older.now st) rest }
-        ensures counted_walk_2 { CountedWalk self.entry.sources.now words.new counts.new }
+        ensures counted_walk_2 { CountedWalk self.entry.sources.bytes.now words.new counts.new }
     {
         for depth in (1..=word(words, 0)).rev() {
             let edge = word(words, depth);
@@ -120,7 +130,7 @@ impl<'a> View<'a> {
                 return true;
             }
             pop(words);
-            self.leave(words, counts);
+            self.sources.leave(words, counts);
         }
         false
     }
@@ -129,12 +139,12 @@ impl<'a> View<'a> {
     fn seek(self, words: &mut [u16], link: usize, counts: &mut [u8]) -> bool
         requires link_le_edge_limit { link ≤ edge_limit }
         requires held { Held words.old × ((link ≡ 0 → ⊥) → get_or words.old 0 0 < reduction_limit) }
-        requires counted_edges { CountedEdges self.sources.now words.old counts.old }
+        requires counted_edges { CountedEdges self.sources.bytes.now words.old counts.old }
         ensures by_index { (st rest : List ℕ) → words.old ≡ trial_words (reverse st) ++ rest → stepped result words.new ≡ step_words (seek_by self.entry.older.now link st) rest }
-        ensures counted_walk { CountedWalk self.entry.sources.now words.new counts.new }
+        ensures counted_walk { CountedWalk self.entry.sources.bytes.now words.new counts.new }
     {
         let Some(edge) = link.checked_sub(1) else {
-            self.leave(words, counts);
+            self.sources.leave(words, counts);
             return self.back(words, counts);
         };
         push(words, edge);
@@ -143,30 +153,22 @@ impl<'a> View<'a> {
 
     // The trial after the one that the words hold; after the empty words, the first from the start item.
     pub fn next(self, words: &mut [u16], counts: &mut [u8]) -> bool
-        requires held { Held words.old × Fitting (next_by self.sources.now self.older.now self.latest.now) words.old }
-        requires counted_walk { CountedWalk self.sources.now words.old counts.old }
-        ensures by_index { (st rest : List ℕ) → words.old ≡ trial_words (reverse st) ++ rest → stepped result words.new ≡ step_words (next_by self.entry.sources.now self.entry.older.now self.entry.latest.now st) rest }
-        ensures counted_walk_2 { CountedWalk self.entry.sources.now words.new counts.new }
+        requires held { Held words.old × Fitting (next_by self.sources.bytes.now self.older.now self.latest.now) words.old }
+        requires counted_walk { CountedWalk self.sources.bytes.now words.old counts.old }
+        ensures by_index { (st rest : List ℕ) → words.old ≡ trial_words (reverse st) ++ rest → stepped result words.new ≡ step_words (next_by self.entry.sources.bytes.now self.entry.older.now self.entry.latest.now st) rest }
+        ensures counted_walk_2 { CountedWalk self.entry.sources.bytes.now words.new counts.new }
     {
         let Some(edge) = last(words) else {
             let first = word(self.latest, View::START);
             return self.seek(words, first, counts);
         };
-        match self.source(edge) {
+        match self.sources.source(edge) {
             Some(nonterminal) if counts[nonterminal] == 0 => {
-                self.join(edge, counts);
+                self.sources.join(edge, counts);
                 let link = word(self.latest, nonterminal);
                 self.seek(words, link, counts)
             }
             _ => self.back(words, counts),
         }
-    }
-
-    // Whether the trial is an example: its last edge comes from an item.
-    pub fn is_example(self, words: &[u16]) -> bool
-        requires held { Held words.now }
-        ensures { (st rest : List ℕ) → words.now ≡ trial_words (reverse st) ++ rest → result ≡ example_by self.entry.sources.now st }
-    {
-        matches!(last(words), Some(edge) if self.source(edge).is_none())
     }
 }

@@ -9,7 +9,7 @@ ghost use Rattle.enumerator.specs.Lister.{owner_of_node};
 ghost use Rattle.view.specs.Blank.{Blank};
 ghost use Rattle.view.specs.View.{latest_room, slot_of, source_of, Tidy, Labelled, EdgeRanged, View as Viewing};
 
-use crate::View;
+use crate::{EdgeLabels, Sources, View};
 use lr1_core::Item;
 use repr::{Grammar, word};
 use trace_graph::{Node, TraceGraph, check_edge, read_edge};
@@ -54,15 +54,21 @@ impl ViewLists {
     // The view that they make, with the labels' items.
     pub fn view<'a>(&'a self, codes: &'a [u16]) -> View<'a>
         requires { Tidy self.now.sources self.now.older self.now.latest }
-        ensures lists { (result.sources.now ≡ self.now.sources) × (result.older.now ≡ self.now.older) × (result.latest.now ≡ self.now.latest) × (result.owners.now ≡ self.now.owners) }
-        ensures codes { result.codes.now ≡ codes.now }
+        ensures lists { (result.sources.bytes.now ≡ self.now.sources) × (result.older.now ≡ self.now.older) × (result.latest.now ≡ self.now.latest) × (result.labels.owners.now ≡ self.now.owners) }
+        ensures codes { result.labels.codes.now ≡ codes.now }
     {
-        View {
-            sources: &self.sources,
-            older: &self.older,
-            latest: &self.latest,
+        let sources = Sources {
+            bytes: &self.sources,
+        };
+        let labels = EdgeLabels {
             owners: &self.owners,
             codes,
+        };
+        View {
+            sources,
+            older: &self.older,
+            latest: &self.latest,
+            labels,
         }
     }
 }

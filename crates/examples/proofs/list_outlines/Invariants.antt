@@ -12,7 +12,7 @@ use Rattle.examples.proofs.list_outlines.Given as goal
 
 abbrev pub invariant-loop-number : goal.invariant-loop-number
 invariant-loop-number l = ((length l.words ≡ trial_room) × (l.count + l.turn ≤ example_limit))
-    × ((es : List TraceEdge) (start : Item) → Listable (productions_in l.filter.grammar.words.now l.filter.grammar.productions) es l.view.owners.now l.view.codes.now l.view.sources.now l.view.older.now l.view.latest.now start
+    × ((es : List TraceEdge) (start : Item) → Listable (productions_in l.filter.grammar.words.now l.filter.grammar.productions) es l.view.labels.owners.now l.view.labels.codes.now l.view.sources.bytes.now l.view.older.now l.view.latest.now start
     → Walk l.filter.sets.now.terminals l.filter.sets.now.map (productions_in l.filter.grammar.words.now l.filter.grammar.productions) (set_of l.filter.lookahead) es start l.words l.made
     × Turn l.filter.sets.now.terminals l.filter.sets.now.map (productions_in l.filter.grammar.words.now l.filter.grammar.productions) (set_of l.filter.lookahead) es start l.shift l.count l.initial.side.kept l.initial.side.prints l.side.kept l.side.prints l.turn l.made)
 

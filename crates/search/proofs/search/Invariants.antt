@@ -11,10 +11,10 @@ use Rattle.search.proofs.Turning.{Turn}
 use Rattle.search.proofs.search.Given as goal
 
 abbrev pub invariant-loop-counts : goal.invariant-loop-counts
-invariant-loop-counts l = ((es : List TraceEdge) (start : Item) → Searching (productions_in l.filter.grammar.words.now l.filter.grammar.productions) es l.view.owners.now l.view.codes.now l.view.sources.now l.view.older.now l.view.latest.now l.initial.words start
-    → Turn (hands_by l.filter.sets.now.terminals l.filter.sets.now.map (productions_in l.filter.grammar.words.now l.filter.grammar.productions) es (set_of l.filter.lookahead)) (productions_in l.filter.grammar.words.now l.filter.grammar.productions) es l.view.owners.now l.view.codes.now l.view.sources.now l.view.older.now l.view.latest.now l.initial.words start l.count l.words l.made)
+invariant-loop-counts l = ((es : List TraceEdge) (start : Item) → Searching (productions_in l.filter.grammar.words.now l.filter.grammar.productions) es l.view.labels.owners.now l.view.labels.codes.now l.view.sources.bytes.now l.view.older.now l.view.latest.now l.initial.words start
+    → Turn (hands_by l.filter.sets.now.terminals l.filter.sets.now.map (productions_in l.filter.grammar.words.now l.filter.grammar.productions) es (set_of l.filter.lookahead)) (productions_in l.filter.grammar.words.now l.filter.grammar.productions) es l.view.labels.owners.now l.view.labels.codes.now l.view.sources.bytes.now l.view.older.now l.view.latest.now l.initial.words start l.count l.words l.made)
     × (length l.counts ≡ 32)
-    × CountedWalk l.view.sources.now l.words l.counts
+    × CountedWalk l.view.sources.bytes.now l.words l.counts
 
 abbrev pub decreases-loop-counts : goal.decreases-loop-counts
 decreases-loop-counts l = trial_limit - l.made

@@ -18,8 +18,8 @@ word-edge-requires c = let R = c.loop-at.invariant _ _ c.requires.tried.1.1 in (
 pub word-requires : goal.word-requires
 word-requires c = let R = c.loop-at.invariant _ _ c.requires.tried.1.1 in (reading_low R c.loop-at-test.true c.word-edge.ensures.0).1
 
-pub bounds-view-edge : goal.bounds-view-edge
-bounds-view-edge c = let R = c.loop-at.invariant _ _ c.requires.tried.1.1 in (reading_low R c.loop-at-test.true c.word-edge.ensures.0).0
+pub bounds-edges-edge : goal.bounds-edges-edge
+bounds-edges-edge c = let R = c.loop-at.invariant _ _ c.requires.tried.1.1 in (reading_low R c.loop-at-test.true c.word-edge.ensures.0).0
 
 pub bounds-labels-place : goal.bounds-labels-place
 bounds-labels-place c = let R = c.loop-at.invariant _ _ c.requires.tried.1.1 in omega (arith, (reading_room R c.loop-at-test.true).1.1)

@@ -6,7 +6,7 @@ use Rattle.codes.proofs.Views.{making_first, making_source, making_target, makin
 use Rattle.codes.proofs.viewing.view_codes.Goals as goal
 
 pub loop-k-init : goal.loop-k-init
-loop-k-init c = making_first (ap length c.requires.blank.3 ∙ length-replicate {A = ℕ} edge_limit 0) c.requires.blank.0 c.requires.blank.1 c.requires.blank.2
+loop-k-init c = making_first (omega arith) c.requires.blank.0 c.requires.blank.1 c.requires.blank.2
 
 pub edge_of-edge-requires : goal.edge_of-edge-requires
 edge_of-edge-requires c = carried_code c.requires.carried (omega (arith, c.loop-k-test.true, c.word-count.ensures.0)) _ c.word.ensures.0

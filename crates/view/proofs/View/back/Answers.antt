@@ -15,21 +15,21 @@ pub word-edge-requires : goal.word-edge-requires
 word-edge-requires c = omega (arith, back_deep c.loop-depth.invariant.2)
 
 pub word-requires : goal.word-requires
-word-requires c = omega (arith, back_edge c.loop-depth.invariant.2 (λ e. omega (arith, e)) c.word-edge.ensures.0, c.args.self.tidy.by_older.long)
+word-requires c = omega (arith, back_edge c.loop-depth.invariant.2 (λ e. omega (arith, e)) c.word-edge.ensures.0, c.args.self.linked.0.long)
 
 pub replace-requires : goal.replace-requires
 replace-requires c = let D = back_deep c.loop-depth.invariant.2 in
-    (D.1.0, (omega (arith, D.1.1), omega (arith, c.in-Some.ensures, c.word.ensures.0, c.args.self.tidy.by_older.low c.word-edge.result)))
+    (D.1.0, (omega (arith, D.1.1), omega (arith, c.in-Some.ensures, c.word.ensures.0, c.args.self.linked.0.low c.word-edge.result)))
 
 pub returns-in-Some : goal.returns-in-Some
-returns-in-Some c = record { by_index = back_found c.loop-depth.invariant.2 (λ e. omega (arith, e)) c.word-edge.ensures.0 c.word.ensures.0 (omega (arith, c.in-Some.ensures)) c.replace.ensures; counted_walk_2 = replace_counts c.args.self.sources.now c.loop-depth.invariant.2.held c.loop-depth.invariant.2.deep (λ e. omega (arith, e)) c.word-edge.ensures.0 c.in-Some.older c.replace.ensures c.loop-depth.invariant.3 }
+returns-in-Some c = record { by_index = back_found c.loop-depth.invariant.2 (λ e. omega (arith, e)) c.word-edge.ensures.0 c.word.ensures.0 (omega (arith, c.in-Some.ensures)) c.replace.ensures; counted_walk_2 = replace_counts c.args.self.sources.bytes.now c.loop-depth.invariant.2.held c.loop-depth.invariant.2.deep (λ e. omega (arith, e)) c.word-edge.ensures.0 c.in-Some.older c.replace.ensures c.loop-depth.invariant.3 }
 
 pub pop-requires : goal.pop-requires
 pop-requires c = let D = back_deep c.loop-depth.invariant.2 in
     (D.1.0, (omega (arith, D.0), omega (arith, D.1.1)))
 
 pub leave-requires : goal.leave-requires
-leave-requires c = record { held = (back_again c.loop-depth.invariant.2 (λ e. omega (arith, e)) c.word-edge.ensures.0 c.word.ensures.0 (omega (arith, c.in_default.ensures)) c.pop.ensures).held; counted_edges = pop_counts c.args.self.sources.now c.loop-depth.invariant.2.held c.loop-depth.invariant.2.deep (λ e. omega (arith, e)) c.word-edge.ensures.0 c.pop.ensures c.loop-depth.invariant.3 }
+leave-requires c = record { held = (back_again c.loop-depth.invariant.2 (λ e. omega (arith, e)) c.word-edge.ensures.0 c.word.ensures.0 (omega (arith, c.in_default.ensures)) c.pop.ensures).held; counted_edges = pop_counts c.args.self.sources.bytes.now c.loop-depth.invariant.2.held c.loop-depth.invariant.2.deep (λ e. omega (arith, e)) c.word-edge.ensures.0 c.pop.ensures c.loop-depth.invariant.3 }
 
 pub loop-depth-preserved : goal.loop-depth-preserved
 loop-depth-preserved c = (c.pop.auto.words ∙ c.loop-depth.invariant.0, c.leave.auto.counts ∙ c.loop-depth.invariant.1, back_again c.loop-depth.invariant.2 (λ e. omega (arith, e)) c.word-edge.ensures.0 c.word.ensures.0 (omega (arith, c.in_default.ensures)) c.pop.ensures, c.leave.ensures)

@@ -14,4 +14,4 @@ pub returns-clause-by_index : goal.returns-clause-by_index
 returns-clause-by_index c = seek_push c.args.self.older.now c.args.link (omega (arith, c.in-Some.ensures)) c.push.ensures
 
 pub returns-clause-counted_walk : goal.returns-clause-counted_walk
-returns-clause-counted_walk c = push_counts c.args.self.sources.now c.requires.held.0 c.in-Some.edge c.push.ensures c.requires.counted_edges
+returns-clause-counted_walk c = push_counts c.args.self.sources.bytes.now c.requires.held.0 c.in-Some.edge c.push.ensures c.requires.counted_edges
