@@ -26,8 +26,8 @@ use first::FirstSets;
 use lookahead::TokenSet;
 use lr1_core::Item;
 use repr::{Grammar, NonterminalString, word};
-use view::{EdgeLabels, View};
 use view::machine::clear;
+use view::{EdgeLabels, View};
 
 // What a search finds: an example with its number, the end with the number of all trials, or a trial past the 100,000th (refusal 13).
 // Three ends, and a count at the second too: as a Result of an Option it would be no plainer.

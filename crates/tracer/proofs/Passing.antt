@@ -1,5 +1,6 @@
 -- The test whether a state's items lead to nothing new (specs/Passed of trace): of one item, and of a chain from the front. Assumes nothing.
 use Rattle.std.proofs.Common.{◌≡◌, ℕ, zero, suc, ◌+◌, ◌*◌, ◌<◌, true, false, eqb, List, [], ◌∷◌, length, get_or, drop, sym, refl, ap, ◌∙◌, arith, ltb-false, eqb-true}
+use Rattle.repr.specs.Sizes.{production_limit, index_limit}
 use Rattle.repr.specs.Lists.{some?}
 use Rattle.repr.specs.Meaning.{Item, ItemFits, All, state_at}
 use Rattle.repr.specs.Listed.{listed}
@@ -16,7 +17,8 @@ use Rattle.trace.specs.Edges.{epsilon_edge}
 use Rattle.trace.specs.Passed.{ItemPassed}
 use Rattle.trace.proofs.Fuel.{owner_small}
 use Rattle.bits.specs.Bits.{bit_at}
-use Rattle.codes.specs.Coded.{Coded}
+use Rattle.codes.specs.Coded.{Coded, SmallLeasts}
+use Rattle.codes.proofs.Keys.{label_small}
 use Rattle.tracer.specs.Held.{Working}
 use Rattle.tracer.specs.Clear.{Clear}
 use Rattle.tracer.proofs.Turns.{items_none, work_many, work_owner, work_shift}
@@ -29,6 +31,11 @@ module _ (t g : List ℕ) (productions : ℕ) (ls : List ℕ) (W : Working t g p
 
   pub owner_few : get_or g (p * 36) 0 < 32
   owner_few = rw (work_owner t g productions ls W p x packed_few) (owner_small (meaning t) (fits t W.accepted) (record { production = p; index = x }))
+
+-- what an edge is added or looked for by is small
+
+pub edge_small : {t g : List ℕ} {productions : ℕ} {ls : List ℕ} → Working t g productions ls → (i : Item) → ItemFits (meaning t) i → (i.production < production_limit) × (i.index < index_limit) × SmallLeasts ls
+edge_small {t} W i I = let s = label_small (meaning t) (fits t W.accepted) i I in (s.0, s.1, (W.least.long, W.small))
 
 -- one item
 

@@ -24,6 +24,7 @@ ghost use Rattle.codes.specs.Coded.{Coded};
 ghost use Rattle.tracer.specs.Held.{pair_words, Working};
 ghost use Rattle.tracer.specs.Outcome.{outcome, edges_outcome, traced_in};
 ghost use Rattle.tracer.specs.Built.{Asked, edges_by};
+ghost use Rattle.tracer.specs.declared.Action.TheVariants.{Reduce};
 
 use crate::reduce::{Reduction, reduce_codes};
 use crate::shift::shift_codes;
@@ -129,32 +130,15 @@ pub struct TracedItem {
     pub action: Action,
 }
 
-// The one trace or the other, where it is known which suffixes are nullable.
-pub fn trace_codes(over: Reduction, traced: TracedItem, trace: &mut OpenTrace) -> Result<(), Full>
-    requires within { (traced.state < length (meaning over.tracer.table.words.now).states) × meaning-of.ItemFits (meaning over.tracer.table.words.now) (record { production = traced.item.production; index = traced.item.index }) }
-    ensures coded { OnOk result (Coded (meaning over.entry.tracer.table.words.now) trace.new.edges.words trace.new.edges.flags (edges_by traced.action (meaning over.entry.tracer.table.words.now) traced.state (record { production = traced.item.production; index = traced.item.index }))) }
-    ensures full { OnErr result (edge_limit < length (edges_by traced.action (meaning over.entry.tracer.table.words.now) traced.state (record { production = traced.item.production; index = traced.item.index }))) }
-{
-    let state = traced.state;
-    let item = traced.item;
-    match traced.action {
-        Action::Shift => shift_codes(over.tracer, state, item, trace),
-        Action::Reduce => reduce_codes(over, state, item, trace),
-    }
-}
-
-// The flags of the items whose suffixes are nullable, which a reduction asks for.
-fn ends_of(tracer: Tracer) -> [u64; Item::FLAG_WORDS]
-    ensures { Ends (meaning tracer.entry.table.words.now) result }
-{
-    let terminals = tracer.table.counts().terminals as u16;
-    let sets = FirstSets::new(tracer.grammar, terminals);
-    suffix_ends(tracer.grammar, &sets)
-}
-
-// The same where that is not known yet: a shift does not ask for it, so that the action is looked at here too.
-fn trace_item(tracer: Tracer, traced: TracedItem, trace: &mut OpenTrace) -> Result<(), Full>
+// The one trace or the other; a reduction goes by the flags of the items whose suffixes are nullable.
+pub fn trace_codes<'a>(
+    tracer: Tracer<'a>,
+    ends: &'a [u64],
+    traced: TracedItem,
+    trace: &mut OpenTrace,
+) -> Result<(), Full>
     requires within { (traced.state < length (meaning tracer.table.words.now).states) × meaning-of.ItemFits (meaning tracer.table.words.now) (record { production = traced.item.production; index = traced.item.index }) }
+    requires suffixes { traced.action ≡ Reduce → Ends (meaning tracer.table.words.now) ends.now }
     ensures coded { OnOk result (Coded (meaning tracer.entry.table.words.now) trace.new.edges.words trace.new.edges.flags (edges_by traced.action (meaning tracer.entry.table.words.now) traced.state (record { production = traced.item.production; index = traced.item.index }))) }
     ensures full { OnErr result (edge_limit < length (edges_by traced.action (meaning tracer.entry.table.words.now) traced.state (record { production = traced.item.production; index = traced.item.index }))) }
 {
@@ -162,19 +146,26 @@ fn trace_item(tracer: Tracer, traced: TracedItem, trace: &mut OpenTrace) -> Resu
     let item = traced.item;
     match traced.action {
         Action::Shift => shift_codes(tracer, state, item, trace),
+        Action::Reduce => reduce_codes(Reduction { tracer, ends }, state, item, trace),
+    }
+}
+
+// The flags that a reduction asks for; a shift asks for none.
+fn ends_for(tracer: Tracer, action: Action) -> [u64; Item::FLAG_WORDS]
+    ensures { action ≡ Reduce → Ends (meaning tracer.entry.table.words.now) result }
+{
+    match action {
+        Action::Shift => [0u64; Item::FLAG_WORDS],
         Action::Reduce => {
-            let ends = ends_of(tracer);
-            let over = Reduction {
-                tracer,
-                ends: &ends,
-            };
-            reduce_codes(over, state, item, trace)
+            let terminals = tracer.table.counts().terminals as u16;
+            let sets = FirstSets::new(tracer.grammar, terminals);
+            suffix_ends(tracer.grammar, &sets)
         }
     }
 }
 
 // The trace, its graph at the front of the words lent; one of too many edges leaves them as they were.
-fn build(
+pub fn build(
     table: AcceptedTable,
     grammar: Grammar,
     traced: TracedItem,
@@ -192,7 +183,8 @@ fn build(
         least: &least,
     };
     let mut trace = OpenTrace::new();
-    trace_item(tracer, traced, &mut trace)?;
+    let ends = ends_for(tracer, traced.action);
+    trace_codes(tracer, &ends, traced, &mut trace)?;
     write_codes(grammar, &trace.edges, graph);
     Ok(())
 }

@@ -52,7 +52,7 @@ fn ends_at(over: Reduction, item: Item) -> bool
 // `trace_reduce_item`: an edge into the item, and on from each state in which the item begins.
 // What the two are given travels together in this recursion alone: a struct of it would be made once, in `reduce_codes`, with the trace lent in it, and each clause would go through it.
 #[cycle(reduce_item_reduce_state)]
-fn reduce_item(
+pub fn reduce_item(
     over: Reduction,
     walk: &mut StateWalk,
     trace: &mut OpenTrace,
@@ -66,7 +66,7 @@ fn reduce_item(
     ensures reduce_exceeds { OnErr result ((f : ℕ) → unset trace.old.entered ≤ f → ReduceExceeds (meaning over.entry.tracer.table.words.now) (λ (st : Trace). item_of_reduce (meaning over.entry.tracer.table.words.now) (λ (p m : ℕ) (u : Trace). state_of_reduce (meaning over.entry.tracer.table.words.now) f p m u) state (record { production = item.production; index = item.index }) st) trace.old.edges.words trace.old.edges.flags trace.old.entered stamps.old.words) }
     ensures entered_bound { (unset trace.new.entered ≤ unset trace.old.entered) × (walk.new.table.words.now ≡ walk.old.table.words.now) }
 {
-    to_item(over.tracer, &mut trace.edges, item)?;
+    to_item(over.tracer.least, &mut trace.edges, item)?;
     let owner = over.tracer.grammar.owner(item.production);
     let states = begins(over.tracer, walk, state, item);
     for from in states.iter() {
@@ -79,7 +79,7 @@ fn reduce_item(
 // once from this state: an item that has its stamp was.
 // An item is made of its record where it is read, here and below: two fields by their names, for which a function of crate trace would be no plainer.
 #[cycle(reduce_item_reduce_state)]
-fn reduce_state(
+pub fn reduce_state(
     over: Reduction,
     walk: &mut StateWalk,
     trace: &mut OpenTrace,
@@ -105,7 +105,7 @@ fn reduce_state(
             continue;
         }
         let on = ends_at(over, item);
-        to_nonterminal(over.tracer, &mut trace.edges, on, item)?;
+        to_nonterminal(over.tracer.least, &mut trace.edges, on, item)?;
         if !on || stamps.at(item) == state + 1 {
             continue;
         }

@@ -32,12 +32,12 @@ fn epsilon_code(tracer: Tracer, edges: &mut EdgeCodes, item: Item) -> Result<(),
     ensures coded { OnOk result ((n : ℕ) → n < length (meaning tracer.entry.table.words.now).nonterminals → can_shift (meaning tracer.entry.table.words.now) n (record { production = item.production; index = item.index }) ≡ true → (es : List TraceEdge) → Coded (meaning tracer.entry.table.words.now) edges.old.words edges.old.flags es → Coded (meaning tracer.entry.table.words.now) edges.new.words edges.new.flags (add (meaning tracer.entry.table.words.now).productions (epsilon_edge (meaning tracer.entry.table.words.now).productions (record { production = item.production; index = item.index }) n) es)) }
     ensures full { OnErr result ((n : ℕ) → n < length (meaning tracer.entry.table.words.now).nonterminals → can_shift (meaning tracer.entry.table.words.now) n (record { production = item.production; index = item.index }) ≡ true → (es : List TraceEdge) → Coded (meaning tracer.entry.table.words.now) edges.old.words edges.old.flags es → edge_limit < length (add (meaning tracer.entry.table.words.now).productions (epsilon_edge (meaning tracer.entry.table.words.now).productions (record { production = item.production; index = item.index }) n) es)) }
 {
-    to_nonterminal(tracer, edges, item.index == 0, item)
+    to_nonterminal(tracer.least, edges, item.index == 0, item)
 }
 
 // `trace_epsilon_edges`: enters the pair of the state and the nonterminal unless it is entered, and follows each item at its beginning to its own nonterminal, in the same state.
 // The items are gone along by places: those of a listed tail stand in its list. An iterator of them would hold both lists and the nonterminal beside the place, for this one loop.
-fn trace_epsilon(
+pub fn trace_epsilon(
     tracer: Tracer,
     trace: &mut OpenTrace,
     records: &[u16],
@@ -202,7 +202,8 @@ fn trace_each<const N: usize>(
             }
         }
         list_tail(
-            tracer,
+            tracer.table,
+            tracer.grammar,
             first,
             &mut tail.records,
             &mut tail.links,
@@ -216,7 +217,7 @@ fn trace_each<const N: usize>(
 }
 
 // The states of the set in turn. Only a table that is not short has tails that are worth a list.
-fn trace_states(
+pub fn trace_states(
     tracer: Tracer,
     trace: &mut OpenTrace,
     states: StateSet,
@@ -239,7 +240,7 @@ fn trace_states(
 }
 
 // `trace_shift`: the edge from the item's nonterminal to the item, and then from each state that the walk over its prefix found.
-fn shift_over(
+pub fn shift_over(
     tracer: Tracer,
     trace: &mut OpenTrace,
     states: StateSet,
@@ -250,7 +251,7 @@ fn shift_over(
     ensures coded { OnOk result ((es : List TraceEdge) → Coded (meaning tracer.entry.table.words.now) trace.old.edges.words trace.old.edges.flags es → Coded (meaning tracer.entry.table.words.now) trace.new.edges.words trace.new.edges.flags (in_turn (λ p u. epsilon (meaning tracer.entry.table.words.now) pairs p (owner_of (meaning tracer.entry.table.words.now) (record { production = item.production; index = item.index })) u) (states_in states.low states.high) (add_to (meaning tracer.entry.table.words.now) (at_nonterminal (owner_of (meaning tracer.entry.table.words.now) (record { production = item.production; index = item.index }))) (at_item (record { production = item.production; index = item.index })) (record { production = item.production; index = item.index }) (record { edges = es; seen = [] }))).edges) }
     ensures full { OnErr result ((es : List TraceEdge) → Coded (meaning tracer.entry.table.words.now) trace.old.edges.words trace.old.edges.flags es → edge_limit < length (in_turn (λ p u. epsilon (meaning tracer.entry.table.words.now) pairs p (owner_of (meaning tracer.entry.table.words.now) (record { production = item.production; index = item.index })) u) (states_in states.low states.high) (add_to (meaning tracer.entry.table.words.now) (at_nonterminal (owner_of (meaning tracer.entry.table.words.now) (record { production = item.production; index = item.index }))) (at_item (record { production = item.production; index = item.index })) (record { production = item.production; index = item.index }) (record { edges = es; seen = [] }))).edges) }
 {
-    to_item(tracer, &mut trace.edges, item)?;
+    to_item(tracer.least, &mut trace.edges, item)?;
     let owner = tracer.grammar.owner(item.production);
     trace_states(tracer, trace, states, owner)
 }

@@ -6,12 +6,13 @@ ghost use Rattle.std.specs.Prelude.{◌≡◌, ℕ, ◌+◌, ◌*◌, ◌<◌, �
 ghost use Rattle.repr.specs.Sizes.{nonterminal_limit};
 ghost use Rattle.table.specs.Decoded.{items_from};
 ghost use Rattle.table.specs.Index.{ItemIndex};
+ghost use Rattle.tracer.specs.Held.{Working};
 ghost use Rattle.tracer.specs.Tails.{tail_words, first_slot, Collected, Linked, Usable, TwoTails, Begins, Follows};
 
-use crate::{Tracer, nonterminal_at};
+use crate::nonterminal_at;
 use bits::{is_set, put};
 use lr1_core::Item;
-use repr::{NonterminalString, word};
+use repr::{Grammar, NonterminalString, word};
 use table::{AcceptedTable, ItemIter};
 
 // A slot and its record, or slot 0 and a record of the chain; record 0 is the end.
@@ -72,22 +73,23 @@ pub fn ahead(table: AcceptedTable, first: usize, most: usize) -> usize
 }
 
 // Puts each item of the tail that has a nonterminal at the cursor into a slot where it is met first. The answer is the slot behind the last; none where there are too many. Slots are counted by hand: not every record gets one.
-fn collect(tracer: Tracer, tail: usize, records: &mut [u16]) -> Option<usize>
-    requires { ItemIndex tracer.table.words.now tail × (length records.old ≡ tail_words) }
-    ensures { IfSome result (λ count. Collected tracer.entry.table.words.now records.new tail count) }
+fn collect(
+    table: AcceptedTable,
+    grammar: Grammar,
+    tail: usize,
+    records: &mut [u16],
+) -> Option<usize>
+    requires { ((ls : List ℕ) × Working table.words.now grammar.words.now grammar.productions ls) × ItemIndex table.words.now tail × (length records.old ≡ tail_words) }
+    ensures { IfSome result (λ count. Collected table.entry.words.now records.new tail count) }
 {
     let mut met = [0u64; Item::FLAG_WORDS];
     let mut count = FIRST_SLOT;
-    let items = ItemIter {
-        table: tracer.table,
-        at: tail,
-    };
-    for read in items {
+    for read in (ItemIter { table, at: tail }) {
         let item = Item {
             production: read.production,
             index: read.index,
         };
-        if nonterminal_at(tracer.grammar, item).is_none() {
+        if nonterminal_at(grammar, item).is_none() {
             continue;
         }
         let place = item.place();
@@ -113,18 +115,18 @@ fn unlink(links: &mut [u16])
 }
 
 // Links the slots before `count` from the last on: each to the one that its nonterminal has so far.
-fn link(tracer: Tracer, records: &[u16], count: usize, links: &mut [u16])
-    requires { ((tail : ℕ) × Collected tracer.table.words.now records.now tail count) × (length links.old ≡ tail_words) }
-    ensures { Linked tracer.entry.table.words.now records.now links.new count first_slot }
+fn link(table: AcceptedTable, grammar: Grammar, records: &[u16], count: usize, links: &mut [u16])
+    requires { ((ls : List ℕ) × Working table.words.now grammar.words.now grammar.productions ls) × ((tail : ℕ) × Collected table.words.now records.now tail count) × (length links.old ≡ tail_words) }
+    ensures { Linked table.entry.words.now records.now links.new count first_slot }
 {
     unlink(links);
     for k in (FIRST_SLOT..count).rev() {
-        let read = tracer.table.item(word(records, k));
+        let read = table.item(word(records, k));
         let item = Item {
             production: read.production,
             index: read.index,
         };
-        if let Some(nonterminal) = nonterminal_at(tracer.grammar, item) {
+        if let Some(nonterminal) = nonterminal_at(grammar, item) {
             links[k] = links[nonterminal];
             links[nonterminal] = k as u16;
         }
@@ -132,16 +134,16 @@ fn link(tracer: Tracer, records: &[u16], count: usize, links: &mut [u16])
 }
 
 // Lists a tail; none where it has too many items.
-fn fill(tracer: Tracer, tail: usize, records: &mut [u16], links: &mut [u16])
-    requires on { ItemIndex tracer.table.words.now tail }
+fn fill(table: AcceptedTable, grammar: Grammar, tail: usize, records: &mut [u16], links: &mut [u16])
+    requires on { ((ls : List ℕ) × Working table.words.now grammar.words.now grammar.productions ls) × ItemIndex table.words.now tail }
     requires records_len { (length records.old ≡ tail_words) × (length links.old ≡ tail_words) }
-    ensures { Usable tracer.entry.table.words.now records.new links.new }
+    ensures { Usable table.entry.words.now records.new links.new }
 {
-    let listed = collect(tracer, tail, records);
+    let listed = collect(table, grammar, tail, records);
     records[0] = 0;
     records[1] = 0;
     if let Some(count) = listed {
-        link(tracer, records, count, links);
+        link(table, grammar, records, count, links);
         records[1] = tail as u16;
     }
 }
@@ -157,39 +159,46 @@ fn meets(table: AcceptedTable, first: usize, tail: usize) -> bool
 }
 
 // Lists the tail of a chain over the one that is listed, unless that is it. False: the chain has no tail, and the lists are as they were.
-fn relist(tracer: Tracer, first: usize, records: &mut [u16], links: &mut [u16]) -> bool
-    requires on { ItemIndex tracer.table.words.now first }
-    requires records_len { (length records.old ≡ tail_words) × (length links.old ≡ tail_words) × Usable tracer.table.words.now records.old links.old }
-    ensures { Usable tracer.entry.table.words.now records.new links.new }
+fn relist(
+    table: AcceptedTable,
+    grammar: Grammar,
+    first: usize,
+    records: &mut [u16],
+    links: &mut [u16],
+) -> bool
+    requires on { ((ls : List ℕ) × Working table.words.now grammar.words.now grammar.productions ls) × ItemIndex table.words.now first }
+    requires records_len { (length records.old ≡ tail_words) × (length links.old ≡ tail_words) × Usable table.words.now records.old links.old }
+    ensures { Usable table.entry.words.now records.new links.new }
 {
-    if meets(tracer.table, first, word(records, 1)) {
+    if meets(table, first, word(records, 1)) {
         return true;
     }
-    let tail = ahead(tracer.table, first, TAIL_AHEAD);
+    let tail = ahead(table, first, TAIL_AHEAD);
     if tail == first {
         return false;
     }
-    fill(tracer, tail, records, links);
+    fill(table, grammar, tail, records, links);
     true
 }
 
 // Sees to it that the tail of a long chain is listed in `records` and `links`, where there is room for lists. The tail that was listed there goes to `others` and `other_links`; a tail that neither has is listed over the older one.
 pub fn list_tail(
-    tracer: Tracer,
+    table: AcceptedTable,
+    grammar: Grammar,
     first: usize,
     records: &mut [u16],
     links: &mut [u16],
     others: &mut [u16],
     other_links: &mut [u16],
 )
-    requires on { ItemIndex tracer.table.words.now first }
-    requires two_tails { TwoTails tracer.table.words.now records.old links.old others.old other_links.old }
-    ensures { TwoTails tracer.entry.table.words.now records.new links.new others.new other_links.new }
+    requires on { ((ls : List ℕ) × Working table.words.now grammar.words.now grammar.productions ls) × ItemIndex table.words.now first }
+    requires two_tails { TwoTails table.words.now records.old links.old others.old other_links.old }
+    ensures { TwoTails table.entry.words.now records.new links.new others.new other_links.new }
 {
-    if records.len() < LIST_WORDS || meets(tracer.table, first, word(records, 1)) {
+    if records.len() < LIST_WORDS || meets(table, first, word(records, 1)) {
         return;
     }
-    if relist(tracer, first, others, other_links) {
+    if relist(table, grammar, first, others, other_links) {
         records.swap_with_slice(others);
         links.swap_with_slice(other_links);
     }

@@ -6,6 +6,9 @@ shift_codes-requires c = record { within = c.requires.within }
 pub returns-in-Shift : goal.returns-in-Shift
 returns-in-Shift c = rw c.in-Shift.is c.shift_codes.ensures
 
+pub invariant_of-reduce_codes : goal.invariant_of-reduce_codes
+invariant_of-reduce_codes c = record { suffixes = c.requires.suffixes c.in-Reduce.is }
+
 pub reduce_codes-requires : goal.reduce_codes-requires
 reduce_codes-requires c = record { within = c.requires.within }
 

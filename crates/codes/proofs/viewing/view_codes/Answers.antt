@@ -1,12 +1,10 @@
-use Rattle.std.proofs.Common.{ℕ, length, ap, ◌∙◌, arith}
-use lib.ListN.{length-replicate}
-use Rattle.repr.specs.Sizes.{edge_limit}
+use Rattle.std.proofs.Common.{arith}
 use Rattle.codes.proofs.Writing.{carried_few, carried_code}
 use Rattle.codes.proofs.Views.{making_first, making_source, making_target, making_place, making_low, making_more, making_done}
 use Rattle.codes.proofs.viewing.view_codes.Goals as goal
 
 pub loop-k-init : goal.loop-k-init
-loop-k-init c = making_first (omega arith) c.requires.blank.0 c.requires.blank.1 c.requires.blank.2
+loop-k-init c = making_first c.requires.blank.3 c.requires.blank.0 c.requires.blank.1 c.requires.blank.2
 
 pub edge_of-edge-requires : goal.edge_of-edge-requires
 edge_of-edge-requires c = carried_code c.requires.carried (omega (arith, c.loop-k-test.true, c.word-count.ensures.0)) _ c.word.ensures.0

@@ -4,12 +4,12 @@ use Rattle.repr.specs.Meaning.{Item}
 use Rattle.table.specs.Decoded.{meaning}
 use Rattle.table.proofs.Decoding.{fits}
 use Rattle.trace_graph.specs.Graph.{TraceEdge, is_same_edge}
-use Rattle.codes.proofs.Keys.{label_small}
 use Rattle.tracer.proofs.Adding.{epsilon_way, way_traced, code_way}
+use Rattle.tracer.proofs.Passing.{edge_small}
 use Rattle.tracer.proofs.shift.is_known.Goals as goal
 
 pub contains-requires : goal.contains-requires
-contains-requires c = let sm = label_small (meaning c.args.tracer.table.words.now) (fits c.args.tracer.table.words.now c.args.tracer.working.accepted) _ c.requires in (sm.0, sm.1, (c.args.tracer.working.least.long, c.args.tracer.working.small))
+contains-requires c = edge_small c.args.tracer.working _ c.requires
 
 pub returns : goal.returns
 returns c = λ n l can ws es C.

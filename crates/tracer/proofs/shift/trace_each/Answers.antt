@@ -21,7 +21,7 @@ pub loop-state-preserved-then-passes_over : goal.loop-state-preserved-then-passe
 loop-state-preserved-then-passes_over g c = (rounds-passed _ _ _ _ _ _ _ _ _ _ _ _ c.loop-state.invariant.0 c.in-Some.state.0 c.next.new.self.0 c.in-Some.ensures.steps (fits _ c.args.tracer.working.accepted) c.requires.within.1 _ c.in-Some-traced.is (c.passes_over.ensures.nonterminal_value c.if-passes_over.true) (c.passes_over.ensures.clear_2 c.if-passes_over.true) _ c.first_item-first.ensures.items _ c.ahead.ensures _ c.with.ensures, c.loop-state.invariant.1)
 
 pub list_tail-requires : goal.list_tail-requires
-list_tail-requires g c = record { on = c.first_item-first.ensures.on; two_tails = c.loop-state.invariant.1 }
+list_tail-requires g c = record { on = ((_, c.args.tracer.working), c.first_item-first.ensures.on); two_tails = c.loop-state.invariant.1 }
 
 pub trace_epsilon-requires : goal.trace_epsilon-requires
 trace_epsilon-requires g c = record { within = (rounds-inside _ _ _ _ _ _ _ _ _ _ _ _ c.loop-state.invariant.0 c.in-Some.state.0 c.next.new.self.0 c.in-Some.ensures.steps, c.requires.within.1); usable = c.list_tail.ensures.usable }

@@ -3,7 +3,7 @@ use Rattle.tracer.proofs.Linking.{usable_none, none_collected, usable_put}
 use Rattle.tracer.proofs.tails.fill.Goals as goal
 
 pub link-requires : goal.link-requires
-link-requires c = ((_, none_collected _ _ (c.collect-listed.auto.records ∙ c.requires.records_len.0) _ _ c.in-Some.ensures), c.requires.records_len.1)
+link-requires c = (c.requires.on.0, (_, none_collected _ _ (c.collect-listed.auto.records ∙ c.requires.records_len.0) _ _ c.in-Some.ensures), c.requires.records_len.1)
 
 pub returns-in-Some : goal.returns-in-Some
 returns-in-Some c = usable_put _ _ (c.collect-listed.auto.records ∙ c.requires.records_len.0) _ _ c.in-Some.ensures _ c.link.ensures

@@ -13,7 +13,7 @@ returns-then-count-gt-EDGES c = let A = c.args in record { value = graph_many A.
 
 pub loop-k-init : goal.loop-k-init
 loop-k-init c = let A = c.args in
-    (checked_first (productions_in A.grammar.words.now A.grammar.productions) A.n A.graph.now _ c.requires.n_bound.0 c.requires.n_bound.1 refl, (omega arith, (labelling_first (omega arith) c.requires.n_bound.2, viewed_first c.requires.blank.0 c.requires.blank.1 c.requires.blank.2)))
+    (checked_first (productions_in A.grammar.words.now A.grammar.productions) A.n A.graph.now _ c.requires.n_bound.0 c.requires.n_bound.1 refl, (omega arith, (labelling_first c.requires.blank.3 c.requires.n_bound.2, viewed_first c.requires.blank.0 c.requires.blank.1 c.requires.blank.2)))
 
 pub loop-k-preserved : goal.loop-k-preserved
 loop-k-preserved c = let A = c.args in
