@@ -32,7 +32,7 @@ use Rattle.examples.specs.Gathers.{is_shift, traced_side}
 single-token : (token set : ℕ) → token < 64 → set ≡ with 0 token → set ≡ single token
 single-token token set h e = e ∙ with_yes 0 token h ∙ union-zero-left (single token)
 
--- the item of a reduce, r the answer of `reduce_item`
+-- the item of a reduce, r the item made of it
 module _ (t g : List ℕ) (productions terminals : ℕ) (sets least ends : List ℕ) (R : Reads t g productions terminals sets least ends) (state : StateIndex) (p : ℕ) (r : TracedItem)
     (e : r ≡ record { state = state.0; item = record { production = p; index = length (get_or (productions_in g productions) p no_production).symbols }; action = Reduce }) where
   end_same : length (get_or (productions_in g productions) p no_production).symbols ≡ length (get_or (meaning t).productions p no_production).symbols

@@ -53,8 +53,8 @@ module _ (t g : List ℕ) (productions terminals : ℕ) (sets least ends : List 
 
     -- the same by a filter's productions and a view
     pub listable_view : (owners words sources older latest : List ℕ) → Listable (meaning t).productions es owners (drop 1 words) sources older latest i → (g' : List ℕ) (n' : ℕ) → (g' ≡ g) × (n' ≡ productions)
-        → (v : ViewOf) → (v.sources.now ≡ sources) × (v.older.now ≡ older) × (v.latest.now ≡ latest) × (v.owners.now ≡ owners) → v.codes.now ≡ take (length words - 1) (drop 1 words)
-        → Listable (productions_in g' n') es v.owners.now v.codes.now v.sources.now v.older.now v.latest.now i
+        → (v : ViewOf) → (v.sources.bytes.now ≡ sources) × (v.older.now ≡ older) × (v.latest.now ≡ latest) × (v.labels.owners.now ≡ owners) → v.labels.codes.now ≡ take (length words - 1) (drop 1 words)
+        → Listable (productions_in g' n') es v.labels.owners.now v.labels.codes.now v.sources.bytes.now v.older.now v.latest.now i
     listable_view owners words sources older latest L g' n' a v e c = rw (a.0, a.1, e.0, e.1, e.2, e.3, c) (listable_in owners words sources older latest L)
 
     -- `list_item`

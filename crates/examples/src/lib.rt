@@ -36,16 +36,15 @@ use first::FirstSets;
 use lookahead::TokenSet;
 use lr1_core::Item;
 use outline::{Outline, Side, outline_of};
-use repr::{Grammar, ProductionIndex, Refusal};
+use repr::{Grammar, ProductionIndex, Refusal, StateIndex};
 use search::{Filter, Searched, read_labels, search, write_trial};
 use shift_items::conflicting_shift_items;
 use table::AcceptedTable;
 use trace::reduce::suffix_ends;
 use trace_graph::Full;
-use tracer::reduce::Reduction;
 use tracer::{Action, OpenTrace, TracedItem, Tracer, trace_codes};
-use view::{EdgeLabels, View};
 use view::making::ViewLists;
+use view::{EdgeLabels, View};
 
 // What tracing and listing read beside the table and its productions, made once for a table: FIRST sets, the least equal productions, which items have a nullable suffix.
 #[derive(Clone, Copy)]
@@ -145,25 +144,50 @@ impl<'a> TableConflict<'a> {
         }
     }
 
-    // Its production at its end, as a reduce traces it, by its token.
-    fn reduce_item(self) -> TableItem<'a>
+    // The reduction that its action is.
+    fn reduction(self) -> TableReduction<'a>
         requires { is_shift self.conflict ≡ false }
         ensures table { result.given.table.words.now ≡ self.entry.given.table.words.now }
-        ensures action { result.traced.action ≡ Reduce }
-        ensures side { traced_side (meaning self.entry.given.table.words.now) result.traced result.lookahead 0 ≡ reduce_side (meaning self.entry.given.table.words.now) self.entry.conflict.state.0 self.entry.conflict.operand self.entry.conflict.token }
+        ensures parts { (result.state ≡ self.entry.conflict.state) × (result.production ≡ self.entry.conflict.operand) × (result.token ≡ self.entry.conflict.token) }
     {
-        let production = self.conflict.operand as usize;
+        TableReduction {
+            given: self.given,
+            state: self.conflict.state,
+            production: self.conflict.operand as usize,
+            token: self.conflict.token,
+        }
+    }
+}
+
+// A production of the table that a state reduces by a token, whatever the state's actions are.
+#[derive(Clone, Copy)]
+pub struct TableReduction<'a> {
+    pub given: Given<'a>,
+    pub state: StateIndex,
+    pub production: usize,
+    pub token: u16,
+    pub ghost within: { (state.0 < length (meaning given.table.words.now).states) × (production < length (meaning given.table.words.now).productions) × (token ≤ (meaning given.table.words.now).terminals) },
+}
+
+impl<'a> TableReduction<'a> {
+    // The production at its end, as a reduce traces it, by the token.
+    fn item(self) -> TableItem<'a>
+        ensures table { result.given.table.words.now ≡ self.entry.given.table.words.now }
+        ensures action { result.traced.action ≡ Reduce }
+        ensures side { traced_side (meaning self.entry.given.table.words.now) result.traced result.lookahead 0 ≡ reduce_side (meaning self.entry.given.table.words.now) self.entry.state.0 self.entry.production self.entry.token }
+    {
+        let production = self.production;
         TableItem {
             given: self.given,
             traced: TracedItem {
-                state: self.conflict.state.0 as usize,
+                state: self.state.0 as usize,
                 item: Item {
                     production,
                     index: self.given.grammar.length(production),
                 },
                 action: Action::Reduce,
             },
-            lookahead: Some(TokenSet::from(self.conflict.token)),
+            lookahead: Some(TokenSet::from(self.token)),
         }
     }
 }
@@ -275,11 +299,7 @@ fn open_view(item: TableItem, trace: &mut OpenTrace, lists: &mut ViewLists) -> R
         grammar: given.grammar,
         least: given.least,
     };
-    let over = Reduction {
-        tracer,
-        ends: given.ends,
-    };
-    trace_codes(over, item.traced, trace)?;
+    trace_codes(tracer, given.ends, item.traced, trace)?;
     view_codes(given.grammar, &trace.edges, item.traced.item, lists);
     Ok(())
 }
@@ -335,11 +355,10 @@ fn shift_examples(case: TableConflict, side: &mut Side) -> Result<Gathered, Refu
 }
 
 // `reduce_examples`: the production at its end, filtered by the token.
-fn reduce_examples(case: TableConflict, side: &mut Side) -> Result<Gathered, Refusal>
-    requires { is_shift case.conflict ≡ false }
-    ensures { Sided (meaning case.entry.given.table.words.now) false (reduce_made (meaning case.entry.given.table.words.now) case.entry.conflict.state.0 case.entry.conflict.operand case.entry.conflict.token) result side.new.kept side.new.prints (reduce_side (meaning case.entry.given.table.words.now) case.entry.conflict.state.0 case.entry.conflict.operand case.entry.conflict.token) }
+pub fn reduce_examples(case: TableReduction, side: &mut Side) -> Result<Gathered, Refusal>
+    ensures { Sided (meaning case.entry.given.table.words.now) false (reduce_made (meaning case.entry.given.table.words.now) case.entry.state.0 case.entry.production case.entry.token) result side.new.kept side.new.prints (reduce_side (meaning case.entry.given.table.words.now) case.entry.state.0 case.entry.production case.entry.token) }
 {
-    list_item(case.reduce_item(), side, 0)
+    list_item(case.item(), side, 0)
 }
 
 // The side of the conflict's action.
@@ -349,7 +368,7 @@ pub fn action_examples(case: TableConflict, side: &mut Side) -> Result<Gathered,
     if case.conflict.is_shift() {
         shift_examples(case, side)
     } else {
-        reduce_examples(case, side)
+        reduce_examples(case.reduction(), side)
     }
 }
 
@@ -401,12 +420,11 @@ fn item_again(item: TableItem, wanted: usize, buffer: &mut [u16])
 }
 
 // Example `wanted` of a reduce's side made again.
-fn reduce_again(case: TableConflict, wanted: usize, buffer: &mut [u16])
-    requires reduces { is_shift case.conflict ≡ false }
+pub fn reduce_again(case: TableReduction, wanted: usize, buffer: &mut [u16])
     requires example_room_in_bounds { example_room ≤ length buffer.old }
-    ensures { (label : ℕ) (x : ExampleOf) → reduce_made (meaning case.entry.given.table.words.now) case.entry.conflict.state.0 case.entry.conflict.operand case.entry.conflict.token label wanted x → buffer.new ≡ in_front (example_words (meaning case.entry.given.table.words.now).productions x) buffer.old }
+    ensures { (label : ℕ) (x : ExampleOf) → reduce_made (meaning case.entry.given.table.words.now) case.entry.state.0 case.entry.production case.entry.token label wanted x → buffer.new ≡ in_front (example_words (meaning case.entry.given.table.words.now).productions x) buffer.old }
 {
-    item_again(case.reduce_item(), wanted, buffer);
+    item_again(case.item(), wanted, buffer);
 }
 
 // An example of the side of the conflict's action made again: of a shift the item is the label kept.
@@ -428,6 +446,6 @@ pub fn action_again(case: TableConflict, label: usize, wanted: usize, buffer: &m
         };
         item_again(item, wanted, buffer);
     } else {
-        reduce_again(case, wanted, buffer);
+        reduce_again(case.reduction(), wanted, buffer);
     }
 }

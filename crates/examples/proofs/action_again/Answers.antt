@@ -12,7 +12,7 @@ pub returns-then-is_shift : goal.returns-then-is_shift
 returns-then-is_shift c = action_shift _ _ _ _ _ _ (eqb-true _ _ (sym c.is_shift.ensures ∙ c.if-is_shift.true)) (rw (c.at.ensures.0, c.at.ensures.1) at c.item_again.ensures)
 
 pub returns-else-is_shift : goal.returns-else-is_shift
-returns-else-is_shift c = action_reduce _ _ _ _ _ _ (eqb-false _ _ (sym c.is_shift.ensures ∙ c.if-is_shift.false)) c.reduce_again.ensures
+returns-else-is_shift c = action_reduce _ _ _ _ _ _ (eqb-false _ _ (sym c.is_shift.ensures ∙ c.if-is_shift.false)) (rw (c.reduction.ensures.table, c.reduction.ensures.parts.0, c.reduction.ensures.parts.1, c.reduction.ensures.parts.2) at c.reduce_again.ensures)
 
-pub reduce_again-requires-clause-reduces : goal.reduce_again-requires-clause-reduces
-reduce_again-requires-clause-reduces c = not_shift _ (sym c.is_shift.ensures ∙ c.if-is_shift.false)
+pub reduction-requires : goal.reduction-requires
+reduction-requires c = not_shift _ (sym c.is_shift.ensures ∙ c.if-is_shift.false)

@@ -8,7 +8,7 @@ pub returns-then-is_shift : goal.returns-then-is_shift
 returns-then-is_shift c = action_shift _ _ _ _ _ (eqb-true _ _ (sym c.is_shift.ensures ∙ c.if-is_shift.true)) c.shift_examples.ensures
 
 pub returns-else-is_shift : goal.returns-else-is_shift
-returns-else-is_shift c = action_reduce _ _ _ _ _ (eqb-false _ _ (sym c.is_shift.ensures ∙ c.if-is_shift.false)) c.reduce_examples.ensures
+returns-else-is_shift c = action_reduce _ _ _ _ _ (eqb-false _ _ (sym c.is_shift.ensures ∙ c.if-is_shift.false)) (rw (c.reduction.ensures.table, c.reduction.ensures.parts.0, c.reduction.ensures.parts.1, c.reduction.ensures.parts.2) at c.reduce_examples.ensures)
 
-pub reduce_examples-requires : goal.reduce_examples-requires
-reduce_examples-requires c = not_shift _ (sym c.is_shift.ensures ∙ c.if-is_shift.false)
+pub reduction-requires : goal.reduction-requires
+reduction-requires c = not_shift _ (sym c.is_shift.ensures ∙ c.if-is_shift.false)

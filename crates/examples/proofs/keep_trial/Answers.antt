@@ -2,8 +2,8 @@ use native.Mathlib.Omega.{arith}
 use Rattle.examples.proofs.Turns.{trial_labelled, trial_unlabelled}
 use Rattle.examples.proofs.keep_trial.Goals as goal
 
-pub read_labels-labels-requires : goal.read_labels-labels-requires
-read_labels-labels-requires c = record { tried = c.requires.tried }
+pub read_labels-labels-requires-clause-tried : goal.read_labels-labels-requires-clause-tried
+read_labels-labels-requires-clause-tried c = c.requires.tried
 
 pub keep_labels-requires : goal.keep_labels-requires
 keep_labels-requires c = (c.read_labels-labels.result.fit.few, omega arith)

@@ -7,11 +7,8 @@ use Rattle.examples.proofs.open_view.Goals as goal
 pub invariant_of-tracer : goal.invariant_of-tracer
 invariant_of-tracer c = record { working = reads_working _ _ _ _ _ _ _ c.args.item.given.reads }
 
-pub invariant_of-over : goal.invariant_of-over
-invariant_of-over c = record { suffixes = c.args.item.given.reads.suffixes }
-
 pub trace_codes-requires : goal.trace_codes-requires
-trace_codes-requires c = record { within = (c.args.item.fits.0, fits-item _ _ c.args.item.fits.1) }
+trace_codes-requires c = record { within = (c.args.item.fits.0, fits-item _ _ c.args.item.fits.1); suffixes = λ _. c.args.item.given.reads.suffixes }
 
 pub view_codes-requires : goal.view_codes-requires
 view_codes-requires c = record { carried = (_, (_, carried _ _ _ _ _ _ _ c.args.item.given.reads _ _ _ c.in_ok-trace_codes.ensures.coded)); blank = c.requires }

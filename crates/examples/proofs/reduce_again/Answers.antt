@@ -3,4 +3,4 @@ use native.Mathlib.Omega.{arith}
 use Rattle.examples.proofs.reduce_again.Goals as goal
 
 pub returns : goal.returns
-returns c = λ label x M. (rw c.reduce_item.ensures.table at c.item_again.ensures) 0 x (omega arith) (reduce_listed _ _ _ _ label _ x _ c.reduce_item.ensures.side M)
+returns c = λ label x M. (rw c.item.ensures.table at c.item_again.ensures) 0 x (omega arith) (reduce_listed _ _ _ _ label _ x _ c.item.ensures.side M)

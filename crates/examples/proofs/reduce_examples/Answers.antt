@@ -1,7 +1,6 @@
 use Rattle.table.proofs.Decoding.{fits}
-use Rattle.examples.proofs.Both.{operand_in_lem, no_shift}
 use Rattle.examples.proofs.Reduces.{reduce_made_lem}
 use Rattle.examples.proofs.reduce_examples.Goals as goal
 
 pub returns : goal.returns
-returns c = reduce_made_lem _ (fits _ c.args.case.given.reads.accepted) _ _ _ (operand_in_lem _ _ c.args.case.fits (no_shift _ c.requires)) _ c.reduce_item.ensures.action _ c.reduce_item.ensures.side _ _ _ _ _ c.list_item.new.side.room (rw c.reduce_item.ensures.table at c.list_item.ensures.listed_on)
+returns c = reduce_made_lem _ (fits _ c.args.case.given.reads.accepted) _ _ _ c.args.case.within.1 _ c.item.ensures.action _ c.item.ensures.side _ _ _ _ _ c.list_item.new.side.room (rw c.item.ensures.table at c.list_item.ensures.listed_on)
