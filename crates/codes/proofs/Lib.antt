@@ -5,3 +5,4 @@ pub mod Decoded
 pub mod Writing
 pub mod Views
 pub mod KindLaws
+pub mod Answered

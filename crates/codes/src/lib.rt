@@ -13,7 +13,7 @@ ghost use Rattle.trace_graph.specs.Graph as graph-of;
 ghost use Rattle.trace_graph.specs.Words.{edge_words, graph_words};
 ghost use Rattle.trace_graph.specs.Values.{SmallEdge, value_words};
 ghost use Rattle.trace.specs.Sound.{EdgeSound};
-ghost use Rattle.codes.specs.Codes.{code_limit, item_code, is_same_production, least_alike, key_by};
+ghost use Rattle.codes.specs.Codes.{code_limit, item_code, code_of, is_same_production, least_alike, key_by, key_of};
 ghost use Rattle.codes.specs.Kinds.{kind_number, IsCodeOf};
 ghost use Rattle.codes.specs.Coded.{Coded, Leasts, SmallLeasts};
 ghost use Rattle.codes.specs.Carried.{Decodes, Carried};
@@ -68,7 +68,7 @@ pub struct EdgeCode {
 
 impl EdgeCode {
     // Its word.
-    fn word(self) -> usize
+    pub fn word(self) -> usize
         requires { (self.item.production < production_limit) × (self.item.index < index_limit) }
         ensures { (result ≡ kind_number self.kind * item_limit + item_code (record { production = self.item.production; index = self.item.index })) × (result < code_limit) }
     {
@@ -89,7 +89,7 @@ impl EdgeCode {
 
     // Its key: of an edge between nonterminals the word with the least equal production.
     // That the least ones are small is asked here and by what calls this: who holds them (`Tracer`, `Given` of examples) has it with what they are of a table, which is not known here.
-    fn key(self, least: &[u8]) -> usize
+    pub fn key(self, least: &[u8]) -> usize
         requires { (self.item.production < production_limit) × (self.item.index < index_limit) × SmallLeasts least.now }
         ensures { (result < code_limit) × ((ps : List meaning-of.Production) → Leasts ps least.now → self.item.production < length ps → result ≡ key_by ps (kind_number self.kind) (record { production = self.item.production; index = self.item.index })) }
     {
@@ -147,13 +147,12 @@ impl EdgeCodes {
         is_set(&self.flags, edge.key(least))
     }
 
-    // Adds an edge, unless an equal one is there; refusal 12 is one edge too many.
-    pub fn insert(&mut self, least: &[u8], edge: EdgeCode) -> Result<(), Full>
-        requires { (edge.item.production < production_limit) × (edge.item.index < index_limit) × SmallLeasts least.now }
-        ensures coded { OnOk result ((T : meaning-of.Table) → meaning-of.TableFits T → Leasts T.productions least.now → edge.item.production < length T.productions → (es : List graph-of.TraceEdge) (e : graph-of.TraceEdge) → Coded T self.old.words self.old.flags es → EdgeSound T e → IsCodeOf edge e → Coded T self.new.words self.new.flags (graph-of.add T.productions e es)) }
-        ensures full { OnErr result ((T : meaning-of.Table) → meaning-of.TableFits T → Leasts T.productions least.now → edge.item.production < length T.productions → (es : List graph-of.TraceEdge) (e : graph-of.TraceEdge) → Coded T self.old.words self.old.flags es → EdgeSound T e → IsCodeOf edge e → edge_limit < length (graph-of.add T.productions e es)) }
+    // Adds an edge by its word and its key, unless an equal one is there; refusal 12 is one edge too many.
+    pub fn insert_code(&mut self, code: usize, key: usize) -> Result<(), Full>
+        requires { (code < code_limit) × (key < code_limit) }
+        ensures coded { OnOk result ((T : meaning-of.Table) → meaning-of.TableFits T → (es : List graph-of.TraceEdge) (e : graph-of.TraceEdge) → Coded T self.old.words self.old.flags es → EdgeSound T e → code ≡ code_of e → key ≡ key_of T.productions (code_of e) → Coded T self.new.words self.new.flags (graph-of.add T.productions e es)) }
+        ensures full { OnErr result ((T : meaning-of.Table) → meaning-of.TableFits T → (es : List graph-of.TraceEdge) (e : graph-of.TraceEdge) → Coded T self.old.words self.old.flags es → EdgeSound T e → code ≡ code_of e → key ≡ key_of T.productions (code_of e) → edge_limit < length (graph-of.add T.productions e es)) }
     {
-        let key = edge.key(least);
         if is_set(&self.flags, key) {
             return Ok(());
         }
@@ -162,9 +161,18 @@ impl EdgeCodes {
             return Err(Full);
         }
         put(&mut self.flags, key);
-        self.words[1 + count] = edge.word() as u16;
+        self.words[1 + count] = code as u16;
         self.words[0] = (count + 1) as u16;
         Ok(())
+    }
+
+    // The same of an edge, by the least equal productions.
+    pub fn insert(&mut self, least: &[u8], edge: EdgeCode) -> Result<(), Full>
+        requires { (edge.item.production < production_limit) × (edge.item.index < index_limit) × SmallLeasts least.now }
+        ensures coded { OnOk result ((T : meaning-of.Table) → meaning-of.TableFits T → Leasts T.productions least.now → edge.item.production < length T.productions → (es : List graph-of.TraceEdge) (e : graph-of.TraceEdge) → Coded T self.old.words self.old.flags es → EdgeSound T e → IsCodeOf edge e → Coded T self.new.words self.new.flags (graph-of.add T.productions e es)) }
+        ensures full { OnErr result ((T : meaning-of.Table) → meaning-of.TableFits T → Leasts T.productions least.now → edge.item.production < length T.productions → (es : List graph-of.TraceEdge) (e : graph-of.TraceEdge) → Coded T self.old.words self.old.flags es → EdgeSound T e → IsCodeOf edge e → edge_limit < length (graph-of.add T.productions e es)) }
+    {
+        self.insert_code(edge.word(), edge.key(least))
     }
 }
 
@@ -237,15 +245,15 @@ fn edge_of(grammar: Grammar, code: usize) -> TraceEdge
 
 // The words of all edges, in front of the graph; what stands behind them is as it was.
 // By place, since the place is the edge's number in the graph; the count is set with each edge, so that the graph is whole after each.
-pub fn write_codes(grammar: Grammar, codes: &EdgeCodes, graph: &mut [u16])
-    requires carried { (T : meaning-of.Table) × ((es : List graph-of.TraceEdge) × Carried grammar.words.now grammar.productions codes.now.words T es) }
+pub fn write_codes(grammar: Grammar, words: &[u16], graph: &mut [u16])
+    requires carried { (T : meaning-of.Table) × ((es : List graph-of.TraceEdge) × Carried grammar.words.now grammar.productions words.now T es) }
     requires room { graph_room ≤ length graph.old }
-    ensures { (T : meaning-of.Table) (es : List graph-of.TraceEdge) → Carried grammar.entry.words.now grammar.entry.productions codes.now.words T es → graph.new ≡ graph_words es ++ drop (edge_place (length es)) graph.old }
+    ensures { (T : meaning-of.Table) (es : List graph-of.TraceEdge) → Carried grammar.entry.words.now grammar.entry.productions words.now T es → graph.new ≡ graph_words es ++ drop (edge_place (length es)) graph.old }
 {
     graph[0] = 0;
-    let count = word(&codes.words, 0);
+    let count = word(words, 0);
     for k in 0..count {
-        let edge = edge_of(grammar, word(&codes.words, 1 + k));
+        let edge = edge_of(grammar, word(words, 1 + k));
         write_edge(graph, k, edge);
         graph[0] = (k + 1) as u16;
     }

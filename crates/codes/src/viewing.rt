@@ -6,23 +6,24 @@ ghost use Rattle.view.specs.Blank.{Blank};
 ghost use Rattle.view.specs.View.{View, Labelled};
 ghost use Rattle.codes.specs.Carried.{Carried};
 
-use crate::{EdgeCodes, edge_of};
+use crate::edge_of;
 use lr1_core::Item;
 use repr::{Grammar, word};
 use view::making::{ViewLists, slot, source};
 
 // The view of a trace for a listing from an item, made in new lists, and by edge the nonterminal that it comes from: with the words behind the count the labels. By place, since the place is the edge's number.
-pub fn view_codes(grammar: Grammar, codes: &EdgeCodes, item: Item, lists: &mut ViewLists)
-    requires carried { (T : Table) × ((es : List TraceEdge) × Carried grammar.words.now grammar.productions codes.now.words T es) }
+pub fn view_codes(grammar: Grammar, words: &[u16], item: Item, lists: &mut ViewLists)
+    requires carried { (T : Table) × ((es : List TraceEdge) × Carried grammar.words.now grammar.productions words.now T es) }
     requires blank { Blank lists.old }
-    ensures { (T : Table) (es : List TraceEdge) → Carried grammar.entry.words.now grammar.entry.productions codes.now.words T es → View es (record { production = item.production; index = item.index }) lists.new.sources lists.new.older lists.new.latest × Labelled T.productions es lists.new.owners (drop 1 codes.now.words) }
+    ensures { (T : Table) (es : List TraceEdge) → Carried grammar.entry.words.now grammar.entry.productions words.now T es → View es (record { production = item.production; index = item.index }) lists.new.sources lists.new.older lists.new.latest × Labelled T.productions es lists.new.owners (drop 1 words.now) }
 {
-    let count = word(&codes.words, 0);
+    let count = word(words, 0);
     for k in 0..count {
-        let edge = edge_of(grammar, word(&codes.words, 1 + k));
+        let edge = edge_of(grammar, word(words, 1 + k));
         let from = edge.source;
         let to = edge.target;
         let owner = grammar.owner(edge.label.production);
-        lists.put(k, source(from), slot(to, item), owner);
+        lists.owners[k] = owner as u8;
+        lists.put(k, source(from), slot(to, item));
     }
 }

@@ -81,7 +81,7 @@ impl<'a> Graph<'a> {
     }
 
     // Whether the trial is an example: its last edge comes from an item.
-    fn is_example(self, words: &[u16]) -> bool
+    pub fn is_example(self, words: &[u16]) -> bool
         requires stacked { Stacked (slice_index self.words.now 0) words.now }
         ensures { (st rest : List ℕ) → words.now ≡ words_of (reverse st) ++ rest → result ≡ is_example_in (ends_of (edges_in self.entry.words.now)) (reverse st) }
     {

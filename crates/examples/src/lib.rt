@@ -300,7 +300,7 @@ fn open_view(item: TableItem, trace: &mut OpenTrace, lists: &mut ViewLists) -> R
         least: given.least,
     };
     trace_codes(tracer, given.ends, item.traced, trace)?;
-    view_codes(given.grammar, &trace.edges, item.traced.item, lists);
+    view_codes(given.grammar, &trace.edges.words, item.traced.item, lists);
     Ok(())
 }
 

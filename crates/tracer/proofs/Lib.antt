@@ -15,4 +15,3 @@ pub mod Words
 pub mod Ways
 pub mod Traced
 pub mod Opened
-pub mod Answered

@@ -185,7 +185,7 @@ pub fn build(
     let mut trace = OpenTrace::new();
     let ends = ends_for(tracer, traced.action);
     trace_codes(tracer, &ends, traced, &mut trace)?;
-    write_codes(grammar, &trace.edges, graph);
+    write_codes(grammar, &trace.edges.words, graph);
     Ok(())
 }
 

@@ -32,7 +32,7 @@ pub struct Reduction<'a> {
 
 // The states in which the item begins that stands in a state: back over its prefix.
 fn begins(tracer: Tracer, walk: &mut StateWalk, state: usize, item: Item) -> StateSet
-    requires table { walk.old.table.words.now ≡ tracer.table.words.now }
+    requires table { meaning walk.old.table.words.now ≡ meaning tracer.table.words.now }
     requires within { (state < length (meaning tracer.table.words.now).states) × ItemFits (meaning tracer.table.words.now) (record { production = item.production; index = item.index }) }
     ensures found { states_in result.low result.high ≡ traced_back (meaning tracer.entry.table.words.now) state (prefix_of (meaning tracer.entry.table.words.now) (record { production = item.production; index = item.index })) }
     ensures table_after { walk.new.table.words.now ≡ walk.old.table.words.now }
@@ -60,7 +60,7 @@ pub fn reduce_item(
     state: usize,
     item: Item,
 ) -> Result<(), Full>
-    requires table { walk.old.table.words.now ≡ over.tracer.table.words.now }
+    requires table { meaning walk.old.table.words.now ≡ meaning over.tracer.table.words.now }
     requires within { (state < length (meaning over.tracer.table.words.now).states) × ItemFits (meaning over.tracer.table.words.now) (record { production = item.production; index = item.index }) }
     ensures reduces { OnOk result ((f : ℕ) → unset trace.old.entered ≤ f → Reduces (meaning over.entry.tracer.table.words.now) (λ (st : Trace). item_of_reduce (meaning over.entry.tracer.table.words.now) (λ (p m : ℕ) (u : Trace). state_of_reduce (meaning over.entry.tracer.table.words.now) f p m u) state (record { production = item.production; index = item.index }) st) trace.old.edges.words trace.old.edges.flags trace.old.entered stamps.old.words trace.new.edges.words trace.new.edges.flags trace.new.entered stamps.new.words) }
     ensures reduce_exceeds { OnErr result ((f : ℕ) → unset trace.old.entered ≤ f → ReduceExceeds (meaning over.entry.tracer.table.words.now) (λ (st : Trace). item_of_reduce (meaning over.entry.tracer.table.words.now) (λ (p m : ℕ) (u : Trace). state_of_reduce (meaning over.entry.tracer.table.words.now) f p m u) state (record { production = item.production; index = item.index }) st) trace.old.edges.words trace.old.edges.flags trace.old.entered stamps.old.words) }
@@ -87,7 +87,7 @@ pub fn reduce_state(
     state: usize,
     nonterminal: usize,
 ) -> Result<(), Full>
-    requires table { walk.old.table.words.now ≡ over.tracer.table.words.now }
+    requires table { meaning walk.old.table.words.now ≡ meaning over.tracer.table.words.now }
     requires within { (state < length (meaning over.tracer.table.words.now).states) × (nonterminal < length (meaning over.tracer.table.words.now).nonterminals) }
     ensures reduces { OnOk result ((f : ℕ) → unset trace.old.entered ≤ f → Reduces (meaning over.entry.tracer.table.words.now) (λ (st : Trace). state_of_reduce (meaning over.entry.tracer.table.words.now) f state nonterminal st) trace.old.edges.words trace.old.edges.flags trace.old.entered stamps.old.words trace.new.edges.words trace.new.edges.flags trace.new.entered stamps.new.words) }
     ensures reduce_exceeds { OnErr result ((f : ℕ) → unset trace.old.entered ≤ f → ReduceExceeds (meaning over.entry.tracer.table.words.now) (λ (st : Trace). state_of_reduce (meaning over.entry.tracer.table.words.now) f state nonterminal st) trace.old.edges.words trace.old.edges.flags trace.old.entered stamps.old.words) }

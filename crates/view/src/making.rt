@@ -37,18 +37,17 @@ impl ViewLists {
         }
     }
 
-    // Edge k put in, where it comes from as its byte has it, to a node by its number: the latest edge into that becomes the next older one.
-    pub fn put(&mut self, k: usize, source: usize, slot: usize, owner: usize)
-        requires { (k < edge_limit) × (source ≤ nonterminal_limit) × (slot < latest_room) × (owner < nonterminal_limit) }
+    // Edge k put in, where it comes from as its byte has it, to a node by its number: the latest edge into that becomes the next older one. Its owner is the caller's to write: a view needs none.
+    pub fn put(&mut self, k: usize, source: usize, slot: usize)
+        requires { (k < edge_limit) × (source ≤ nonterminal_limit) × (slot < latest_room) }
         ensures sources { self.new.sources ≡ set self.old.sources k source }
         ensures older { self.new.older ≡ set self.old.older k (get_or self.old.latest slot 0) }
         ensures latest { self.new.latest ≡ set self.old.latest slot (k + 1) }
-        ensures owners { self.new.owners ≡ set self.old.owners k owner }
+        ensures owners { self.new.owners ≡ self.old.owners }
     {
         self.sources[k] = source as u8;
         self.older[k] = self.latest[slot];
         self.latest[slot] = (k + 1) as u16;
-        self.owners[k] = owner as u8;
     }
 
     // The view that they make, with the labels' items.
@@ -129,7 +128,8 @@ fn view_edge(
     let from = edge.source;
     let to = edge.target;
     codes[k] = edge.label.place() as u16;
-    lists.put(k, source(from), slot(to, start), node_owner(grammar, from));
+    lists.owners[k] = node_owner(grammar, from) as u8;
+    lists.put(k, source(from), slot(to, start));
 }
 
 // Whether a lent graph is one (refusal 9), as `check_graph` asks; in the same pass its view for a listing from an item is made in new lists, and the label of every edge. The lists

@@ -1,20 +1,10 @@
-use Rattle.std.proofs.Common.{sym, ◌∙◌, arith}
-use Rattle.codes.proofs.Coding.{coded_there, coded_full, coded_new}
+use Rattle.std.proofs.Common.{◌∙◌}
+use Rattle.codes.proofs.Answered.{on_ok, on_err}
 use Rattle.codes.proofs.KindLaws.{word_is, key_is}
 use Rattle.codes.proofs.EdgeCodes.insert.Goals as goal
 
-pub returns-then-is_set : goal.returns-then-is_set
-returns-then-is_set c = record { coded = λ T fits L h es e C t I. coded_there T fits _ _ es e C t _ c.key-key.result (word_is c.args.edge e I) (c.key-key.ensures.1 T.productions L h ∙ key_is c.args.edge e I T fits t) c.key-key.ensures.0 (sym c.is_set.ensures ∙ c.if-is_set.true); full = tt }
-
-pub returns-then-count-ge-EDGES : goal.returns-then-count-ge-EDGES
-returns-then-count-ge-EDGES c = record { coded = tt; full = λ T fits L h es e C t I. coded_full T fits _ _ es e C t _ c.key-key.result (word_is c.args.edge e I) (c.key-key.ensures.1 T.productions L h ∙ key_is c.args.edge e I T fits t) c.key-key.ensures.0 (sym c.is_set.ensures ∙ c.if-is_set.false) (omega (arith, c.word-count.ensures.0, c.if-count-ge-EDGES.true)) }
-
 pub returns : goal.returns
 returns c = record {
-  coded = λ T fits L h es e C t I.
-      let b = sym c.is_set.ensures ∙ c.if-is_set.false in
-      let w = c.word-count.ensures.0 in
-      let made = coded_new T fits _ _ es e C t c.word.result c.key-key.result (c.word.ensures.0 ∙ word_is c.args.edge e I) (c.key-key.ensures.1 T.productions L h ∙ key_is c.args.edge e I T fits t) c.key-key.ensures.0 b (omega (arith, w, c.if-count-ge-EDGES.false)) in
-      rw (c.put.ensures, w) made;
-  full = tt;
+  coded = on_ok c.insert_code.result c.insert_code.ensures.coded (λ r T F L h es e C t I. r T F es e C t (c.word.ensures.0 ∙ word_is c.args.edge e I) (c.key.ensures.1 T.productions L h ∙ key_is c.args.edge e I T F t));
+  full = on_err c.insert_code.result c.insert_code.ensures.full (λ r T F L h es e C t I. r T F es e C t (c.word.ensures.0 ∙ word_is c.args.edge e I) (c.key.ensures.1 T.productions L h ∙ key_is c.args.edge e I T F t));
 }

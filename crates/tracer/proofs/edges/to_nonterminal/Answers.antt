@@ -1,4 +1,4 @@
-use Rattle.tracer.proofs.Answered.{on_ok, on_err}
+use Rattle.codes.proofs.Answered.{on_ok, on_err}
 use Rattle.std.proofs.Common.{refl}
 use Rattle.repr.specs.Meaning.{Item}
 use Rattle.tracer.proofs.Adding.{way_traced, code_way}

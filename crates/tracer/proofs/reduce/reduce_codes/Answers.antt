@@ -1,11 +1,12 @@
-use Rattle.tracer.proofs.Answered.{on_ok, on_err}
+use Rattle.std.proofs.Common.{ap}
+use Rattle.codes.proofs.Answered.{on_ok, on_err}
 use Rattle.table.specs.Decoded.{meaning}
 use Rattle.tracer.proofs.Begin.{held_none}
 use Rattle.tracer.proofs.Whole.{begun, reduce_coded, reduce_exceeds}
 use Rattle.tracer.proofs.reduce.reduce_codes.Goals as goal
 
 pub reduce_item-requires : goal.reduce_item-requires
-reduce_item-requires c = record { table = c.new-walk.ensures; within = c.requires.within }
+reduce_item-requires c = record { table = ap meaning c.new-walk.ensures; within = c.requires.within }
 
 pub returns : goal.returns
 returns c = let T = meaning c.args.over.tracer.table.words.now in

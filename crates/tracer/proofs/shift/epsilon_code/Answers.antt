@@ -1,4 +1,4 @@
-use Rattle.tracer.proofs.Answered.{on_ok, on_err}
+use Rattle.codes.proofs.Answered.{on_ok, on_err}
 use Rattle.table.specs.Decoded.{meaning}
 use Rattle.table.proofs.Decoding.{fits}
 use Rattle.tracer.proofs.Adding.{epsilon_way}

@@ -1,4 +1,4 @@
-use Rattle.tracer.proofs.Answered.{on_ok, on_err}
+use Rattle.codes.proofs.Answered.{on_ok, on_err}
 use Rattle.std.proofs.Common.{◌<◌, length}
 use Rattle.repr.specs.Sizes.{edge_limit}
 use Rattle.table.specs.Decoded.{meaning}

@@ -1,5 +1,5 @@
 use Rattle.std.proofs.lemmas.Result.{err_from_is_err_and}
-use Rattle.tracer.proofs.Answered.{on_ok, on_err}
+use Rattle.codes.proofs.Answered.{on_ok, on_err}
 use Rattle.std.proofs.Common.{◌<◌, length, ◌∙◌, arith}
 use Rattle.repr.specs.Sizes.{edge_limit}
 use Rattle.table.specs.Decoded.{meaning}
