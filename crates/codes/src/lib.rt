@@ -2,12 +2,12 @@
 
 #![tactic(auto)]
 
-ghost use Rattle.std.specs.Prelude.{OnOk, OnErr, ◌≡◌, ℕ, ◌+◌, ◌*◌, ◌/◌, ◌%◌, ◌<◌, ◌≤◌, Bool, true, false, List, [], ◌++◌, length, drop, replicate, slice_index};
+ghost use Rattle.std.specs.Prelude.{OnOk, OnErr, ◌≡◌, ℕ, ◌+◌, ◌*◌, ◌/◌, ◌%◌, ◌<◌, ◌≤◌, true, List, [], ◌++◌, length, drop, slice_index};
 ghost use Rattle.repr.specs.Sizes.{production_limit, index_limit, item_limit, edge_limit, edge_place, graph_room};
 ghost use Rattle.repr.specs.Lists.{some?};
 ghost use Rattle.repr.specs.Meaning as meaning-of;
 ghost use Rattle.repr.specs.Listed.{listed};
-ghost use Rattle.repr.specs.Packed.{Packed, productions_in, symbol_words};
+ghost use Rattle.repr.specs.Packed.{productions_in, symbol_words};
 ghost use Rattle.lr1_core.specs.Items.{shifts_nonterminal};
 ghost use Rattle.trace_graph.specs.Graph as graph-of;
 ghost use Rattle.trace_graph.specs.Words.{edge_words, graph_words};

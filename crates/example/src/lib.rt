@@ -3,10 +3,10 @@
 #![tactic(auto)]
 
 ghost use Rattle.std.specs.Prelude.{◌≡◌, ◌+◌, ◌*◌, ◌<◌, ◌≤◌, [], ◌∷◌, length, slice_index_or, MatchOption};
-ghost use Rattle.repr.specs.Sizes.{terminal_limit, example_symbols, reduction_room, example_room, label_room};
+ghost use Rattle.repr.specs.Sizes.{example_symbols, reduction_room, example_room, label_room};
 ghost use Rattle.slices.specs.Lent.{in_front};
 ghost use Rattle.repr.specs.Lists.{joined};
-ghost use Rattle.repr.specs.Packed.{Packed, productions_in};
+ghost use Rattle.repr.specs.Packed.{productions_in};
 ghost use Rattle.first.specs.First.{first0};
 ghost use Rattle.example.specs.Example.{sets_of, prefixes, suffixes, middle, symbols, symbol_words, example_words, cursor_of, ahead, asked_parts, asked_of};
 ghost use Rattle.example.specs.Labels.{labels_in, LabelsFit};

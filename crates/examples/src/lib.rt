@@ -6,12 +6,11 @@ ghost use Rattle.std.specs.Prelude.{OnOk, OnErr, ◌≡◌, ℕ, ◌<◌, ◌≤
 ghost use Rattle.repr.specs.Sizes.{grammar_room, edge_limit, trial_limit, example_limit, example_room};
 ghost use Rattle.slices.specs.Lent.{in_front};
 ghost use Rattle.repr.specs.Meaning.{Item as ItemOf};
-ghost use Rattle.repr.specs.Packed.{Packed, productions_in};
+ghost use Rattle.repr.specs.Packed.{productions_in};
 ghost use Rattle.table.specs.Decoded.{meaning};
 ghost use Rattle.trace_graph.specs.Graph.{TraceEdge};
 ghost use Rattle.trace_graph.specs.Fits.{item_is_fit};
 ghost use Rattle.tracer.specs.Built.{edges_by};
-ghost use Rattle.codes.specs.Coded.{codes_room};
 ghost use Rattle.example.specs.Example.{example_words};
 ghost use Rattle.enumerator.specs.Lister.{labels_of};
 ghost use Rattle.enumerator.specs.Advance.{set_of};

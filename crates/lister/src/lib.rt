@@ -2,28 +2,21 @@
 
 #![tactic(auto)]
 
-ghost use Rattle.std.specs.Prelude.{◌≡◌, true, false, ◌&&◌, List, ◌++◌, ℕ, ◌+◌, ◌-◌, ◌≤◌, ◌<◌, length, get_or, replicate, slice_index};
-ghost use Rattle.repr.specs.Sizes.{edge_limit, graph_room, scratch_words, trial_limit, example_room};
-ghost use Rattle.slices.specs.Lent.{in_front};
+ghost use Rattle.std.specs.Prelude.{◌≡◌, true, false, ◌&&◌, ℕ, ◌-◌, ◌≤◌, ◌<◌, length, slice_index};
+ghost use Rattle.repr.specs.Sizes.{scratch_words, trial_limit, example_room};
 ghost use Rattle.repr.specs.Reply.{reply_of};
 ghost use Rattle.repr.specs.Meaning.{Table};
-ghost use Rattle.repr.specs.Packed.{Packed, productions_in};
+ghost use Rattle.repr.specs.Packed.{productions_in};
 ghost use Rattle.table.specs.Decoded.{meaning};
-ghost use Rattle.table.specs.Checked.{Accepted};
-ghost use Rattle.table.specs.Refusals.{check_of};
 ghost use Rattle.trace_graph.specs.Graph.{at_item, is_same_node, is_node_of};
 ghost use Rattle.trace_graph.specs.Fits.{item_is_fit};
-ghost use Rattle.trace_graph.specs.Words.{node_at, edge_at, edges_in};
-ghost use Rattle.trace_graph.specs.Index.{index_room};
+ghost use Rattle.trace_graph.specs.Words.{edge_at, edges_in};
 ghost use Rattle.trace_graph.specs.Values.{node_is};
-ghost use Rattle.example.specs.Example.{example_words};
 ghost use Rattle.enumerator.specs.Trials.{ends_of, trials};
-ghost use Rattle.enumerator.specs.Lister.{labels_of, hands, search};
-ghost use Rattle.enumerator.specs.Advance.{outcome, set_of, start_of, asked, moved, found_outcome, rest_of, lost, advance_in, open_in};
-ghost use Rattle.enumerator.specs.Stacks.{Roomy, Started, Ranged};
-ghost use Rattle.view.specs.View.{latest_room, View as Viewing, Labelled};
-ghost use Rattle.view.specs.Trial.{trial_words};
-ghost use Rattle.search.specs.Given.{Tried};
+ghost use Rattle.enumerator.specs.Lister.{hands, search};
+ghost use Rattle.enumerator.specs.Advance.{outcome, set_of, start_of, asked, found_outcome, rest_of, lost, advance_in, open_in};
+ghost use Rattle.enumerator.specs.Stacks.{Started};
+ghost use Rattle.view.specs.View.{View as Viewing, Labelled};
 ghost use Rattle.lister.specs.Context.{Read, Listable, ends_at, ahead_by, sets_for, begun};
 
 use enumerator::machine::{Graph, clear};

@@ -7,7 +7,7 @@ ghost use Rattle.std.proofs.Math.Option.{some};
 ghost use Rattle.repr.specs.Sizes.{trial_limit, example_room, labels_room};
 ghost use Rattle.slices.specs.Lent.{in_front};
 ghost use Rattle.repr.specs.Meaning.{Production, Item as ItemOf};
-ghost use Rattle.repr.specs.Packed.{Packed, productions_in};
+ghost use Rattle.repr.specs.Packed.{productions_in};
 ghost use Rattle.trace_graph.specs.Graph.{TraceEdge, at_item};
 ghost use Rattle.example.specs.Example.{example_words};
 ghost use Rattle.example.specs.Labels.{labels_in, LabelsFit};

@@ -9,7 +9,7 @@ pub mod stamps;
 pub mod tails;
 
 ghost use Rattle.std.specs.Prelude.{OnOk, OnErr, MatchOption, ◌≡◌, ℕ, ◌+◌, ◌*◌, ◌<◌, ◌≤◌, true, false, eqb, [], length, replicate};
-ghost use Rattle.repr.specs.Sizes.{nonterminal_limit, state_limit, edge_limit, graph_room, scratch_words, item_flags};
+ghost use Rattle.repr.specs.Sizes.{nonterminal_limit, state_limit, edge_limit, graph_room, scratch_words};
 ghost use Rattle.repr.specs.Meaning as meaning-of;
 ghost use Rattle.repr.specs.Listed.{listed};
 ghost use Rattle.repr.specs.Packed.{symbol_words};

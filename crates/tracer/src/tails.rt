@@ -2,7 +2,7 @@
 // `records`: word 1 is the record that the tail begins with (0: none is listed), and from slot FIRST_SLOT on the listed records stand in their order; word 0 is 0, the record of no slot.
 // `links`: of each nonterminal the first slot, of each slot the next with the same nonterminal; 0 where there is none.
 // `others`, `other_links`: the same of the tail that was used before, so that two long chains by turns are each listed once.
-ghost use Rattle.std.specs.Prelude.{◌≡◌, ℕ, ◌+◌, ◌*◌, ◌<◌, ◌≤◌, IfSome, List, length, drop, replicate, ◌≢◌, slice_index};
+ghost use Rattle.std.specs.Prelude.{◌≡◌, ℕ, ◌+◌, ◌<◌, IfSome, List, length, drop, replicate, ◌≢◌, slice_index};
 ghost use Rattle.repr.specs.Sizes.{nonterminal_limit};
 ghost use Rattle.table.specs.Decoded.{items_from};
 ghost use Rattle.table.specs.Index.{ItemIndex};
@@ -72,6 +72,7 @@ pub fn ahead(table: AcceptedTable, first: usize, most: usize) -> usize
     at
 }
 
+// Tails are listed of a table and its packed productions, here and below: of what else tracing works over (`Working`) nothing is read.
 // Puts each item of the tail that has a nonterminal at the cursor into a slot where it is met first. The answer is the slot behind the last; none where there are too many. Slots are counted by hand: not every record gets one.
 fn collect(
     table: AcceptedTable,

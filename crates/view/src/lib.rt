@@ -2,7 +2,6 @@
 
 #![tactic(auto)]
 
-ghost use Rattle.std.specs.Prelude.{◌≡◌};
 ghost use Rattle.repr.specs.Sizes.{nonterminal_limit, edge_limit};
 ghost use Rattle.view.specs.View.{Bounded, latest_room};
 

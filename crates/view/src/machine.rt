@@ -3,7 +3,6 @@ ghost use Rattle.std.specs.Prelude.{◌≡◌, List, [], ◌∷◌, ◌++◌, re
 ghost use Rattle.repr.specs.Sizes.{edge_limit, nonterminal_limit, reduction_limit};
 ghost use Rattle.enumerator.specs.Counts.{Counted};
 ghost use Rattle.enumerator.specs.Stacks.{stepped};
-ghost use Rattle.view.specs.View.{Bounded, Tidy};
 ghost use Rattle.view.specs.Trial.{trial_room, trial_words, Held, Fitting, step_words};
 ghost use Rattle.view.specs.Steps.{joined_by, back_by, seek_by, next_by, example_by, CountedWalk, CountedEdges};
 

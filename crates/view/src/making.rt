@@ -1,7 +1,7 @@
 // Making a view: of a graph in words, edge by edge, while the graph is checked.
 ghost use Rattle.std.specs.Prelude.{◌≡◌, true, ℕ, ◌+◌, ◌*◌, ◌≤◌, ◌<◌, length, get_or, set};
 ghost use Rattle.repr.specs.Sizes.{nonterminal_limit, index_limit, edge_limit, graph_room};
-ghost use Rattle.repr.specs.Packed.{Packed, productions_in};
+ghost use Rattle.repr.specs.Packed.{productions_in};
 ghost use Rattle.trace_graph.specs.Words.{edge_at, edges_in};
 ghost use Rattle.trace_graph.specs.Fits.{graph_fits};
 ghost use Rattle.trace_graph.specs.Values.{node_is, node_value_fits};
