@@ -78,8 +78,8 @@ fn classify_kept(
     }
     let mut rows = [0u16; Conflict::EXAMPLES];
     let mut columns = [0u16; Conflict::EXAMPLES];
-    sort_side(actions, action_count, &mut rows);
-    sort_side(reduces, reduce_count, &mut columns);
+    sort_side(&actions.kept, action_count, &mut rows);
+    sort_side(&reduces.kept, reduce_count, &mut columns);
     let judging = Judging {
         case,
         actions: SortedSide {

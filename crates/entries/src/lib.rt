@@ -2,7 +2,7 @@
 
 #![tactic(auto)]
 
-ghost use Rattle.std.specs.Prelude.{◌≡◌, [], ◌∷◌, ◌++◌, ◌+◌, ◌*◌, ◌≤◌, ◌<◌, length, get_or, take, drop};
+ghost use Rattle.std.specs.Prelude.{◌≡◌, [], ◌∷◌, ◌++◌, ◌+◌, ◌*◌, ◌≤◌, ◌<◌, length, get_or, take, drop, replicate};
 ghost use Rattle.std.proofs.lemmas.List.Edits.{sets};
 ghost use Rattle.repr.specs.Sizes.{entry_limit, entry_room, entry_place, entries_room};
 ghost use Rattle.error.specs.Numbers.{number_of_class, values_of_class};
@@ -40,9 +40,9 @@ pub struct EntryList {
 }
 
 impl EntryList {
-    // None.
+    // None, and zeros.
     pub fn new() -> EntryList
-        ensures { result.count ≡ 0 }
+        ensures { (result.count ≡ 0) × (result.words ≡ replicate entries_room 0) }
     {
         EntryList {
             words: [0; Class::ALL_WORDS],

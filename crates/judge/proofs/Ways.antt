@@ -24,7 +24,9 @@ use Rattle.repr.proofs.Packed.{words_long}
 use Rattle.repr.proofs.Parts.{listed_at, symbols_long, word_of}
 use Rattle.trace_graph.proofs.Fits.{production-symbols}
 use Rattle.table.specs.Checked.{Accepted}
-use Rattle.table.specs.Decoded.{meaning}
+use Rattle.table.specs.Decoded.{meaning, productions_from}
+use Rattle.table.specs.Index.{ProductionRead}
+use Rattle.table.proofs.Written.{productions_end}
 use Rattle.table.specs.Refusals.{check_of}
 use Rattle.error.specs.declared.Class.{Class}
 use Rattle.error.specs.declared.Class.TheVariants.{Ambiguity, Precedence, SuggestQuestion, AmbiguousReduction}
@@ -199,6 +201,21 @@ module _ (g : List ℕ) (n : ℕ) (p : ℕ) (hp : p < n) (q : ℕ) (hq : q < n) 
 
 pub cons_same : {x : ℕ} {l m : List ℕ} → l ≡ m → x ∷ l ≡ x ∷ m
 cons_same {x} e = ap (λ (l : List ℕ). x ∷ l) e
+
+-- the first two productions of a chain, as its steps read them
+pub record FirstTwo (t : List ℕ) (at past p q : ℕ) : Type 0 where
+  pub list : productions_from t at ≡ p ∷ q ∷ productions_from t past
+  pub fits : (p < length (meaning t).productions) × (q < length (meaning t).productions)
+
+pub first_two : {t u v : List ℕ} {at next past p q : ℕ} → u ≡ t → v ≡ u → ProductionRead u at next p → ProductionRead v next past q → FirstTwo t at past p q
+first_two {t} e f p q =
+    let P : ProductionRead t _ _ _ = rw e at p in
+    let Q : ProductionRead t _ _ _ = rw (f ∙ e) at q in
+    record { list = P.list ∙ cons_same Q.list; fits = (P.fits, Q.fits) }
+
+-- and no others
+pub two_all : {t : List ℕ} {at past p q : ℕ} → FirstTwo t at past p q → past ≡ 0 → productions_from t at ≡ p ∷ q ∷ []
+two_all {t} two e = two.list ∙ cons_same (cons_same (ap (productions_from t) e ∙ productions_end t))
 
 optional-left : (xs ys : List Symbol) (x : Symbol) → some x ≡ optional_one xs ys → some x ≡ optional xs ys
 unfolding optional_one optional

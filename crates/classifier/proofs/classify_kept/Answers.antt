@@ -15,10 +15,10 @@ returns-then-action_count-eq0 c = elim c.then-action_count-eq0.branch [
 ]
 
 pub sort_side-requires : goal.sort_side-requires
-sort_side-requires c = let P = c.requires.sides in let K = P.1.1.0 in let e = P.1.1.1.0 in let S = side_sorts _ _ _ _ _ _ K.action _ e _ (length-replicate {A = ℕ} example_limit 0) in (S.0, S.1)
+sort_side-requires c = let P = c.requires.sides in let K = P.1.1.0 in let e = P.1.1.1.0 in let S = side_sorts _ _ _ _ _ _ K.action _ e _ (length-replicate {A = ℕ} example_limit 0) in (S.0, (S.1, S.2))
 
 pub sort_side-requires-2 : goal.sort_side-requires-2
-sort_side-requires-2 c = let P = c.requires.sides in let K = P.1.1.0 in let f = P.1.1.1.1 in let S = side_sorts _ _ _ _ _ _ K.reduce _ f _ (length-replicate {A = ℕ} example_limit 0) in (S.0, S.1)
+sort_side-requires-2 c = let P = c.requires.sides in let K = P.1.1.0 in let f = P.1.1.1.1 in let S = side_sorts _ _ _ _ _ _ K.reduce _ f _ (length-replicate {A = ℕ} example_limit 0) in (S.0, (S.1, S.2))
 
 pub slice_bounds-rows-end : goal.slice_bounds-rows-end
 slice_bounds-rows-end c = let P = c.requires.sides in let K = P.1.1.0 in let e = P.1.1.1.0 in let l = K.action.outlined.few in omega arith
