@@ -18,7 +18,7 @@ use error::{Class, Classification, Conflict};
 use example::Example as ExampleBuffer;
 use examples::{TableConflict, action_examples, prepare};
 use judge::{Judging, write_example};
-use outline::Side;
+use outline::{KeptSide, Outline, Side};
 use pairs::{SortedSide, sort_side};
 use repr::{ProductionIndex, Refusal};
 use slices::zero;
@@ -49,10 +49,10 @@ fn shifts_end(conflict: Conflict, terminals: usize) -> bool
 }
 
 // The example of the action's side that is shown, if there is one, at the front of its buffer.
-fn show(case: TableConflict, side: &Side, shown: Option<usize>, buffer: &mut [u16])
-    requires side_kept { (xs : List Example) × (SideKept (meaning case.given.table.words.now) (is_shift case.conflict) (action_made (meaning case.given.table.words.now) case.conflict) xs side.now.kept side.now.prints × ShownFits (length xs) «shown») }
+fn show(case: TableConflict, side: KeptSide, shown: Option<usize>, buffer: &mut [u16])
+    requires side_kept { (xs : List Example) × (SideKept (meaning case.given.table.words.now) (is_shift case.conflict) (action_made (meaning case.given.table.words.now) case.conflict) xs side.kept.now side.prints.now × ShownFits (length xs) «shown») }
     requires example_room_in_bounds { example_room ≤ length buffer.old }
-    ensures { (xs : List Example) → SideKept (meaning case.entry.given.table.words.now) (is_shift case.entry.conflict) (action_made (meaning case.entry.given.table.words.now) case.entry.conflict) xs side.now.kept side.now.prints → ShownFits (length xs) «shown» → buffer.new ≡ shown_words (meaning case.entry.given.table.words.now).productions (shown_in xs «shown») buffer.old }
+    ensures { (xs : List Example) → SideKept (meaning case.entry.given.table.words.now) (is_shift case.entry.conflict) (action_made (meaning case.entry.given.table.words.now) case.entry.conflict) xs side.entry.kept.now side.entry.prints.now → ShownFits (length xs) «shown» → buffer.new ≡ shown_words (meaning case.entry.given.table.words.now).productions (shown_in xs «shown») buffer.old }
 {
     if let Some(k) = shown {
         write_example(case, side, k, buffer);
@@ -62,24 +62,24 @@ fn show(case: TableConflict, side: &Side, shown: Option<usize>, buffer: &mut [u1
 // The class from both sides: either empty is naive, and writes nothing; else both are put in order and judged, and the examples shown are made again. The buffers are lent here and below, and may be longer than an example: their length is asked at the entry (refusal 11).
 fn classify_kept(
     case: TableConflict,
-    actions: &Side,
+    actions: KeptSide,
     action_count: usize,
-    reduces: &Side,
+    reduces: KeptSide,
     reduce_count: usize,
     action: &mut [u16],
     reduce: &mut [u16],
 ) -> Class
-    requires sides { (xs : List Example) × ((ys : List Example) × (Sides (meaning case.given.table.words.now) case.conflict xs ys actions.now.kept actions.now.prints reduces.now.kept reduces.now.prints × ((length xs ≡ action_count) × (length ys ≡ reduce_count)))) }
+    requires sides { (xs : List Example) × ((ys : List Example) × (Sides (meaning case.given.table.words.now) case.conflict xs ys actions.kept.now actions.prints.now reduces.kept.now reduces.prints.now × ((length xs ≡ action_count) × (length ys ≡ reduce_count)))) }
     requires example_room_in_bounds { (example_room ≤ length action.old) × (example_room ≤ length reduce.old) }
-    ensures { (xs ys : List Example) → Sides (meaning case.entry.given.table.words.now) case.entry.conflict xs ys actions.now.kept actions.now.prints reduces.now.kept reduces.now.prints → length xs ≡ action_count → length ys ≡ reduce_count → judged_words result action.new reduce.new ≡ shown_of (meaning case.entry.given.table.words.now).productions action.old reduce.old (judged (meaning case.entry.given.table.words.now) case.entry.conflict xs ys) }
+    ensures { (xs ys : List Example) → Sides (meaning case.entry.given.table.words.now) case.entry.conflict xs ys actions.entry.kept.now actions.entry.prints.now reduces.entry.kept.now reduces.entry.prints.now → length xs ≡ action_count → length ys ≡ reduce_count → judged_words result action.new reduce.new ≡ shown_of (meaning case.entry.given.table.words.now).productions action.old reduce.old (judged (meaning case.entry.given.table.words.now) case.entry.conflict xs ys) }
 {
     if action_count == 0 || reduce_count == 0 {
         return Class::Naive;
     }
     let mut rows = [0u16; Conflict::EXAMPLES];
     let mut columns = [0u16; Conflict::EXAMPLES];
-    sort_side(&actions.kept, action_count, &mut rows);
-    sort_side(&reduces.kept, reduce_count, &mut columns);
+    sort_side(actions.kept, action_count, &mut rows);
+    sort_side(reduces.kept, reduce_count, &mut columns);
     let judging = Judging {
         case,
         actions: SortedSide {
@@ -106,15 +106,19 @@ pub fn classify(
     requires { (example_room ≤ length action.old) × (example_room ≤ length reduce.old) }
     ensures { (scratch : List ℕ) → outcome (reading_of result) (zeroed classify_scratch scratch) action.new reduce.new ≡ gathered_outcome (meaning case.entry.given.table.words.now) case.entry.conflict scratch action.old reduce.old (gather (meaning case.entry.given.table.words.now) case.entry.conflict) }
 {
-    let mut actions = Side::new();
-    let mut reduces = Side::new();
+    let mut kept = [0u16; Outline::ALL_WORDS];
+    let mut prints = [0u64; Conflict::EXAMPLES];
+    let mut actions = Side::of(&mut kept, &mut prints);
+    let mut other_kept = [0u16; Outline::ALL_WORDS];
+    let mut other_prints = [0u64; Conflict::EXAMPLES];
+    let mut reduces = Side::of(&mut other_kept, &mut other_prints);
     let own = action_examples(case, &mut actions)?;
     let found = action_examples(case.reduced(), &mut reduces)?;
     let class = classify_kept(
         case,
-        &actions,
+        actions.read(),
         own.examples,
-        &reduces,
+        reduces.read(),
         found.examples,
         action,
         reduce,

@@ -23,7 +23,7 @@ ghost use Rattle.judge.specs.Judging.{InBuffer, Sides, Ordered, picked, pair_in,
 use error::Class;
 use example::Example as ExampleBuffer;
 use examples::{Given, TableConflict, action_again};
-use outline::{Outline, Side};
+use outline::{KeptSide, Outline, turn_at, write_kept};
 use pairs::{SortedSide, Test, first_pair};
 use repr::{Grammar, NonterminalString, Symbol, word};
 
@@ -36,17 +36,17 @@ pub struct Judged {
 }
 
 // Example k of the side of the conflict's action, written at the front of a buffer: from its labels where they are kept, else made again.
-pub fn write_example(case: TableConflict, side: &Side, k: usize, buffer: &mut [u16])
-    requires side_kept { (xs : List Example) × (SideKept (meaning case.given.table.words.now) (is_shift case.conflict) (action_made (meaning case.given.table.words.now) case.conflict) xs side.now.kept side.now.prints × (k < length xs)) }
+pub fn write_example(case: TableConflict, side: KeptSide, k: usize, buffer: &mut [u16])
+    requires side_kept { (xs : List Example) × (SideKept (meaning case.given.table.words.now) (is_shift case.conflict) (action_made (meaning case.given.table.words.now) case.conflict) xs side.kept.now side.prints.now × (k < length xs)) }
     requires example_room_in_bounds { example_room ≤ length buffer.old }
-    ensures { (xs : List Example) → SideKept (meaning case.entry.given.table.words.now) (is_shift case.entry.conflict) (action_made (meaning case.entry.given.table.words.now) case.entry.conflict) xs side.now.kept side.now.prints → k < length xs → buffer.new ≡ in_front (example_words (meaning case.entry.given.table.words.now).productions (nth xs k)) buffer.old }
+    ensures { (xs : List Example) → SideKept (meaning case.entry.given.table.words.now) (is_shift case.entry.conflict) (action_made (meaning case.entry.given.table.words.now) case.entry.conflict) xs side.entry.kept.now side.entry.prints.now → k < length xs → buffer.new ≡ in_front (example_words (meaning case.entry.given.table.words.now).productions (nth xs k)) buffer.old }
 {
     if k < Outline::LABELLED {
-        side.write_kept(case.given.grammar, k, buffer);
+        write_kept(case.given.grammar, side.kept, k, buffer);
         return;
     }
     let outline = side.outline(k);
-    let turn = side.turn(k);
+    let turn = turn_at(side.kept, k);
     action_again(case, outline.label, turn, buffer);
 }
 
@@ -125,8 +125,8 @@ pub struct Judging<'a> {
 impl<'a> Judging<'a> {
     // Whether examples x and y, made again, are read alike.
     fn same_again(self, x: usize, y: usize) -> bool
-        requires { (xs : List Example) × ((ys : List Example) × (Sides (meaning self.case.given.table.words.now) self.case.conflict xs ys self.actions.side.now.kept self.actions.side.now.prints self.reduces.side.now.kept self.reduces.side.now.prints × ((x < length xs) × (y < length ys)))) }
-        ensures { (xs ys : List Example) → Sides (meaning self.entry.case.given.table.words.now) self.entry.case.conflict xs ys self.entry.actions.side.now.kept self.entry.actions.side.now.prints self.entry.reduces.side.now.kept self.entry.reduces.side.now.prints → x < length xs → y < length ys → result ≡ is_same_reading (meaning self.entry.case.given.table.words.now).productions (nth xs x) (nth ys y) }
+        requires { (xs : List Example) × ((ys : List Example) × (Sides (meaning self.case.given.table.words.now) self.case.conflict xs ys self.actions.side.kept.now self.actions.side.prints.now self.reduces.side.kept.now self.reduces.side.prints.now × ((x < length xs) × (y < length ys)))) }
+        ensures { (xs ys : List Example) → Sides (meaning self.entry.case.given.table.words.now) self.entry.case.conflict xs ys self.entry.actions.side.kept.now self.entry.actions.side.prints.now self.entry.reduces.side.kept.now self.entry.reduces.side.prints.now → x < length xs → y < length ys → result ≡ is_same_reading (meaning self.entry.case.given.table.words.now).productions (nth xs x) (nth ys y) }
     {
         let mut action = [0u16; ExampleBuffer::WORDS];
         let mut reduce = [0u16; ExampleBuffer::WORDS];
@@ -137,8 +137,8 @@ impl<'a> Judging<'a> {
 
     // `try_classify_ambiguity`: the first pair that is read alike, by the numbers of its examples. Prints are equal where two are read alike; where they are equal both are made again and compared, and if they differ the search goes on behind them.
     fn try_classify_ambiguity(self) -> Option<(usize, usize)>
-        requires { (xs : List Example) × ((ys : List Example) × (Sides (meaning self.case.given.table.words.now) self.case.conflict xs ys self.actions.side.now.kept self.actions.side.now.prints self.reduces.side.now.kept self.reduces.side.now.prints × (Ordered xs self.actions.order.now × Ordered ys self.reduces.order.now))) }
-        ensures { (xs ys : List Example) → Sides (meaning self.entry.case.given.table.words.now) self.entry.case.conflict xs ys self.entry.actions.side.now.kept self.entry.actions.side.now.prints self.entry.reduces.side.now.kept self.entry.reduces.side.now.prints → Ordered xs self.entry.actions.order.now → Ordered ys self.entry.reduces.order.now → ReadAlike (meaning self.entry.case.given.table.words.now).productions xs ys self.entry.actions.order.now self.entry.reduces.order.now result }
+        requires { (xs : List Example) × ((ys : List Example) × (Sides (meaning self.case.given.table.words.now) self.case.conflict xs ys self.actions.side.kept.now self.actions.side.prints.now self.reduces.side.kept.now self.reduces.side.prints.now × (Ordered xs self.actions.order.now × Ordered ys self.reduces.order.now))) }
+        ensures { (xs ys : List Example) → Sides (meaning self.entry.case.given.table.words.now) self.entry.case.conflict xs ys self.entry.actions.side.kept.now self.entry.actions.side.prints.now self.entry.reduces.side.kept.now self.entry.reduces.side.prints.now → Ordered xs self.entry.actions.order.now → Ordered ys self.entry.reduces.order.now → ReadAlike (meaning self.entry.case.given.table.words.now).productions xs ys self.entry.actions.order.now self.entry.reduces.order.now result }
     {
         let given = self.case.given;
         let mut begin: (usize, usize) = (0, 0);
@@ -176,8 +176,8 @@ impl<'a> Judging<'a> {
     // Ambiguity of a reduce: where both first reductions are to one nonterminal, the action's example alone and both spans, the conflict's first.
     fn reduce_ambiguity(self, x: usize, y: usize) -> Judged
         requires reduces { is_shift self.case.conflict ≡ false }
-        requires sides { (xs : List Example) × ((ys : List Example) × (Sides (meaning self.case.given.table.words.now) self.case.conflict xs ys self.actions.side.now.kept self.actions.side.now.prints self.reduces.side.now.kept self.reduces.side.now.prints × ((x < length xs) × (y < length ys)))) }
-        ensures { (xs ys : List Example) → Sides (meaning self.entry.case.given.table.words.now) self.entry.case.conflict xs ys self.entry.actions.side.now.kept self.entry.actions.side.now.prints self.entry.reduces.side.now.kept self.entry.reduces.side.now.prints → x < length xs → y < length ys → Judges xs ys result (ambiguity_of_reduce (meaning self.entry.case.given.table.words.now).productions (production_at (meaning self.entry.case.given.table.words.now) self.entry.case.conflict.production.0) (production_at (meaning self.entry.case.given.table.words.now) self.entry.case.conflict.operand) (pair_in xs ys x y)) }
+        requires sides { (xs : List Example) × ((ys : List Example) × (Sides (meaning self.case.given.table.words.now) self.case.conflict xs ys self.actions.side.kept.now self.actions.side.prints.now self.reduces.side.kept.now self.reduces.side.prints.now × ((x < length xs) × (y < length ys)))) }
+        ensures { (xs ys : List Example) → Sides (meaning self.entry.case.given.table.words.now) self.entry.case.conflict xs ys self.entry.actions.side.kept.now self.entry.actions.side.prints.now self.entry.reduces.side.kept.now self.entry.reduces.side.prints.now → x < length xs → y < length ys → Judges xs ys result (ambiguity_of_reduce (meaning self.entry.case.given.table.words.now).productions (production_at (meaning self.entry.case.given.table.words.now) self.entry.case.conflict.production.0) (production_at (meaning self.entry.case.given.table.words.now) self.entry.case.conflict.operand) (pair_in xs ys x y)) }
     {
         let grammar = self.case.given.grammar;
         let conflict = self.case.conflict;
@@ -197,8 +197,8 @@ impl<'a> Judging<'a> {
 
     // A pair that is read alike, by the action.
     fn ambiguity(self, x: usize, y: usize) -> Judged
-        requires { (xs : List Example) × ((ys : List Example) × (Sides (meaning self.case.given.table.words.now) self.case.conflict xs ys self.actions.side.now.kept self.actions.side.now.prints self.reduces.side.now.kept self.reduces.side.now.prints × ((x < length xs) × (y < length ys)))) }
-        ensures { (xs ys : List Example) → Sides (meaning self.entry.case.given.table.words.now) self.entry.case.conflict xs ys self.entry.actions.side.now.kept self.entry.actions.side.now.prints self.entry.reduces.side.now.kept self.entry.reduces.side.now.prints → x < length xs → y < length ys → Judges xs ys result (ambiguity_of (meaning self.entry.case.given.table.words.now) self.entry.case.conflict.production.0 self.entry.case.conflict.action self.entry.case.conflict.operand (pair_in xs ys x y)) }
+        requires { (xs : List Example) × ((ys : List Example) × (Sides (meaning self.case.given.table.words.now) self.case.conflict xs ys self.actions.side.kept.now self.actions.side.prints.now self.reduces.side.kept.now self.reduces.side.prints.now × ((x < length xs) × (y < length ys)))) }
+        ensures { (xs ys : List Example) → Sides (meaning self.entry.case.given.table.words.now) self.entry.case.conflict xs ys self.entry.actions.side.kept.now self.entry.actions.side.prints.now self.entry.reduces.side.kept.now self.entry.reduces.side.prints.now → x < length xs → y < length ys → Judges xs ys result (ambiguity_of (meaning self.entry.case.given.table.words.now) self.entry.case.conflict.production.0 self.entry.case.conflict.action self.entry.case.conflict.operand (pair_in xs ys x y)) }
     {
         if self.case.conflict.is_shift() {
             self.shift_ambiguity(x, y)
@@ -220,8 +220,8 @@ impl<'a> Judging<'a> {
     // `try_classify_inline`: the first pair that inlining would help, else insufficient lookahead with the first of each.
     fn try_classify_inline(self) -> Judged
         requires action_value { self.case.conflict.action ≡ 0 }
-        requires sides { (xs : List Example) × ((ys : List Example) × (Sides (meaning self.case.given.table.words.now) self.case.conflict xs ys self.actions.side.now.kept self.actions.side.now.prints self.reduces.side.now.kept self.reduces.side.now.prints × (Ordered xs self.actions.order.now × Ordered ys self.reduces.order.now))) }
-        ensures { (xs ys : List Example) → Sides (meaning self.entry.case.given.table.words.now) self.entry.case.conflict xs ys self.entry.actions.side.now.kept self.entry.actions.side.now.prints self.entry.reduces.side.now.kept self.entry.reduces.side.now.prints → Ordered xs self.entry.actions.order.now → Ordered ys self.entry.reduces.order.now → Judges xs ys result (inline_or (meaning self.entry.case.given.table.words.now).productions (heads_in xs ys self.entry.actions.order.now self.entry.reduces.order.now) (first_fit (judging.inlines (meaning self.entry.case.given.table.words.now)) (picked xs self.entry.actions.order.now) (picked ys self.entry.reduces.order.now))) }
+        requires sides { (xs : List Example) × ((ys : List Example) × (Sides (meaning self.case.given.table.words.now) self.case.conflict xs ys self.actions.side.kept.now self.actions.side.prints.now self.reduces.side.kept.now self.reduces.side.prints.now × (Ordered xs self.actions.order.now × Ordered ys self.reduces.order.now))) }
+        ensures { (xs ys : List Example) → Sides (meaning self.entry.case.given.table.words.now) self.entry.case.conflict xs ys self.entry.actions.side.kept.now self.entry.actions.side.prints.now self.entry.reduces.side.kept.now self.entry.reduces.side.prints.now → Ordered xs self.entry.actions.order.now → Ordered ys self.entry.reduces.order.now → Judges xs ys result (inline_or (meaning self.entry.case.given.table.words.now).productions (heads_in xs ys self.entry.actions.order.now self.entry.reduces.order.now) (first_fit (judging.inlines (meaning self.entry.case.given.table.words.now)) (picked xs self.entry.actions.order.now) (picked ys self.entry.reduces.order.now))) }
     {
         let given = self.case.given;
         match first_pair(
@@ -249,8 +249,8 @@ impl<'a> Judging<'a> {
     // A shift where no pair is ambiguous: question, inline, else insufficient lookahead.
     fn shift_unambiguous(self) -> Judged
         requires action_value { self.case.conflict.action ≡ 0 }
-        requires sides { (xs : List Example) × ((ys : List Example) × (Sides (meaning self.case.given.table.words.now) self.case.conflict xs ys self.actions.side.now.kept self.actions.side.now.prints self.reduces.side.now.kept self.reduces.side.now.prints × (Ordered xs self.actions.order.now × Ordered ys self.reduces.order.now))) }
-        ensures { (xs ys : List Example) → Sides (meaning self.entry.case.given.table.words.now) self.entry.case.conflict xs ys self.entry.actions.side.now.kept self.entry.actions.side.now.prints self.entry.reduces.side.now.kept self.entry.reduces.side.now.prints → Ordered xs self.entry.actions.order.now → Ordered ys self.entry.reduces.order.now → Judges xs ys result (unambiguous (meaning self.entry.case.given.table.words.now) self.entry.case.conflict.production.0 0 (picked xs self.entry.actions.order.now) (picked ys self.entry.reduces.order.now) (heads_in xs ys self.entry.actions.order.now self.entry.reduces.order.now)) }
+        requires sides { (xs : List Example) × ((ys : List Example) × (Sides (meaning self.case.given.table.words.now) self.case.conflict xs ys self.actions.side.kept.now self.actions.side.prints.now self.reduces.side.kept.now self.reduces.side.prints.now × (Ordered xs self.actions.order.now × Ordered ys self.reduces.order.now))) }
+        ensures { (xs ys : List Example) → Sides (meaning self.entry.case.given.table.words.now) self.entry.case.conflict xs ys self.entry.actions.side.kept.now self.entry.actions.side.prints.now self.entry.reduces.side.kept.now self.entry.reduces.side.prints.now → Ordered xs self.entry.actions.order.now → Ordered ys self.entry.reduces.order.now → Judges xs ys result (unambiguous (meaning self.entry.case.given.table.words.now) self.entry.case.conflict.production.0 0 (picked xs self.entry.actions.order.now) (picked ys self.entry.reduces.order.now) (heads_in xs ys self.entry.actions.order.now self.entry.reduces.order.now)) }
     {
         let given = self.case.given;
         let nonterminal = given
@@ -268,8 +268,8 @@ impl<'a> Judging<'a> {
 
     // Where no pair is ambiguous: by the action, question and inline being for a shift alone.
     fn unambiguous(self) -> Judged
-        requires { (xs : List Example) × ((ys : List Example) × (Sides (meaning self.case.given.table.words.now) self.case.conflict xs ys self.actions.side.now.kept self.actions.side.now.prints self.reduces.side.now.kept self.reduces.side.now.prints × (Ordered xs self.actions.order.now × Ordered ys self.reduces.order.now))) }
-        ensures { (xs ys : List Example) → Sides (meaning self.entry.case.given.table.words.now) self.entry.case.conflict xs ys self.entry.actions.side.now.kept self.entry.actions.side.now.prints self.entry.reduces.side.now.kept self.entry.reduces.side.now.prints → Ordered xs self.entry.actions.order.now → Ordered ys self.entry.reduces.order.now → Judges xs ys result (judging.unambiguous (meaning self.entry.case.given.table.words.now) self.entry.case.conflict.production.0 self.entry.case.conflict.action (picked xs self.entry.actions.order.now) (picked ys self.entry.reduces.order.now) (heads_in xs ys self.entry.actions.order.now self.entry.reduces.order.now)) }
+        requires { (xs : List Example) × ((ys : List Example) × (Sides (meaning self.case.given.table.words.now) self.case.conflict xs ys self.actions.side.kept.now self.actions.side.prints.now self.reduces.side.kept.now self.reduces.side.prints.now × (Ordered xs self.actions.order.now × Ordered ys self.reduces.order.now))) }
+        ensures { (xs ys : List Example) → Sides (meaning self.entry.case.given.table.words.now) self.entry.case.conflict xs ys self.entry.actions.side.kept.now self.entry.actions.side.prints.now self.entry.reduces.side.kept.now self.entry.reduces.side.prints.now → Ordered xs self.entry.actions.order.now → Ordered ys self.entry.reduces.order.now → Judges xs ys result (judging.unambiguous (meaning self.entry.case.given.table.words.now) self.entry.case.conflict.production.0 self.entry.case.conflict.action (picked xs self.entry.actions.order.now) (picked ys self.entry.reduces.order.now) (heads_in xs ys self.entry.actions.order.now self.entry.reduces.order.now)) }
     {
         if self.case.conflict.is_shift() {
             self.shift_unambiguous()
@@ -280,8 +280,8 @@ impl<'a> Judging<'a> {
 
     // The class from two sides in their order, neither of them empty: ambiguity first.
     pub fn judge(self) -> Judged
-        requires { (xs : List Example) × ((ys : List Example) × (Sides (meaning self.case.given.table.words.now) self.case.conflict xs ys self.actions.side.now.kept self.actions.side.now.prints self.reduces.side.now.kept self.reduces.side.now.prints × (Ordered xs self.actions.order.now × Ordered ys self.reduces.order.now))) }
-        ensures { (xs ys : List Example) → Sides (meaning self.entry.case.given.table.words.now) self.entry.case.conflict xs ys self.entry.actions.side.now.kept self.entry.actions.side.now.prints self.entry.reduces.side.now.kept self.entry.reduces.side.now.prints → Ordered xs self.entry.actions.order.now → Ordered ys self.entry.reduces.order.now → Judges xs ys result (judge (meaning self.entry.case.given.table.words.now) self.entry.case.conflict (picked xs self.entry.actions.order.now) (picked ys self.entry.reduces.order.now)) }
+        requires { (xs : List Example) × ((ys : List Example) × (Sides (meaning self.case.given.table.words.now) self.case.conflict xs ys self.actions.side.kept.now self.actions.side.prints.now self.reduces.side.kept.now self.reduces.side.prints.now × (Ordered xs self.actions.order.now × Ordered ys self.reduces.order.now))) }
+        ensures { (xs ys : List Example) → Sides (meaning self.entry.case.given.table.words.now) self.entry.case.conflict xs ys self.entry.actions.side.kept.now self.entry.actions.side.prints.now self.entry.reduces.side.kept.now self.entry.reduces.side.prints.now → Ordered xs self.entry.actions.order.now → Ordered ys self.entry.reduces.order.now → Judges xs ys result (judge (meaning self.entry.case.given.table.words.now) self.entry.case.conflict (picked xs self.entry.actions.order.now) (picked ys self.entry.reduces.order.now)) }
     {
         match self.try_classify_ambiguity() {
             Some((x, y)) => self.ambiguity(x, y),

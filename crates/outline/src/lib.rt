@@ -170,30 +170,30 @@ pub fn outline_of(labels: Labels, shift: bool) -> Outline
     }
 }
 
-// What is kept of a side's examples: outlines, behind them the labels of the first, and of each example its print.
-// Fixed words, since there is no heap, and u16 by place, with the prints beside them, since each definition of a side is over its words (specs/Kept). How many are used is the count that a listing answers, which is refused before it is more: no field, as a refusal leaves what is kept behind it.
+// What is kept of a side's examples, as it is written: outlines, behind them the labels of the first, and of each example its print.
+// Words that are lent, since there is no heap, and u16 by place, with the prints beside them, since each definition of a side is over its words (specs/Kept). How many are used is the count that a listing answers, which is refused before it is more: no field, as a refusal leaves what is kept behind it.
 #[derive(Drop)]
-pub struct Side {
-    pub kept: [u16; Outline::ALL_WORDS],
-    pub prints: [u64; Conflict::EXAMPLES],
-    pub ghost room: { Room kept prints },
+pub struct Side<'a> {
+    pub kept: &'a mut [u16],
+    pub prints: &'a mut [u64],
+    pub ghost room: { Room kept.now prints.now },
 }
 
-// Which example is asked is its number, in range at each call: a type for it would have to hold the side.
-impl Side {
-    // Nothing kept.
-    pub fn new() -> Side {
-        Side {
-            kept: [0; Outline::ALL_WORDS],
-            prints: [0; Conflict::EXAMPLES],
-        }
+// Which example is asked is its number, in range at each call, here and below: a type for it would have to hold the side.
+impl<'a> Side<'a> {
+    // Over the words lent.
+    pub fn of(kept: &'a mut [u16], prints: &'a mut [u64]) -> Side<'a>
+        requires { Room kept.old prints.old }
+        ensures { (result.kept.now ≡ kept.old) × (result.prints.now ≡ prints.old) }
+    {
+        Side { kept, prints }
     }
 
     // Keeps an outline as example k, and which of its listing's it is.
     pub fn keep(&mut self, outline: Outline, turn: usize, k: usize)
         requires { OutlineFits outline × (turn < example_limit) × (k < example_limit) }
-        ensures kept_after { self.new.kept ≡ kept_with self.old.kept k outline turn }
-        ensures prints_after { self.new.prints ≡ slice_set self.old.prints k outline.print }
+        ensures kept_after { self.new.kept.now ≡ kept_with self.old.kept.now k outline turn }
+        ensures prints_after { self.new.prints.now ≡ slice_set self.old.prints.now k outline.print }
     {
         let at = k * Outline::WORDS;
         self.kept[at] = outline.places as u16;
@@ -203,56 +203,75 @@ impl Side {
         self.prints[k] = outline.print;
     }
 
-    // Keeps the labels of example k.
-    pub fn keep_labels(&mut self, labels: &[u16], k: usize)
-        requires { (length labels.now ≤ labels_room) × (k < labelled_limit) }
-        ensures kept_after { LabelsPut labels.now k self.old.kept self.new.kept }
-        ensures prints_after { self.new.prints ≡ self.old.prints }
+    // As it is read.
+    pub fn read(&self) -> KeptSide
+        ensures { (result.kept.now ≡ self.now.kept.now) × (result.prints.now ≡ self.now.prints.now) }
     {
-        let at = Outline::OUTLINES + k * Outline::LABELLED_WORDS;
-        let from = at + 1;
-        let to = from + labels.len();
-        self.kept[from..to].copy_from_slice(labels);
-        self.kept[at] = labels.len() as u16;
+        KeptSide {
+            kept: self.kept,
+            prints: self.prints,
+        }
     }
+}
 
-    // Example k, whose labels are kept, at the front of the buffer.
-    pub fn write_kept(&self, grammar: Grammar, k: usize, buffer: &mut [u16])
-        requires within { k < labelled_limit }
-        requires example_room_in_bounds { ((x : ExampleOf) × KeptLabels (productions_in grammar.words.now grammar.productions) self.now.kept k x) × (example_room ≤ length buffer.old) }
-        ensures { (x : ExampleOf) → KeptLabels (productions_in grammar.entry.words.now grammar.entry.productions) self.now.kept k x → buffer.new ≡ in_front (example_words (productions_in grammar.entry.words.now grammar.entry.productions) x) buffer.old }
-    {
-        let at = Outline::OUTLINES + k * Outline::LABELLED_WORDS;
-        let from = at + 1;
-        let to = from + word(&self.kept, at);
-        let labels = Labels {
-            grammar,
-            words: &self.kept[from..to],
-        };
-        labels.write_example(buffer);
-    }
+// What is kept of a side's examples, as it is read.
+#[derive(Clone, Copy)]
+pub struct KeptSide<'a> {
+    pub kept: &'a [u16],
+    pub prints: &'a [u64],
+    pub ghost room: { Room kept.now prints.now },
+}
 
+impl<'a> KeptSide<'a> {
     // What is kept of example k.
-    pub fn outline(&self, k: usize) -> Outline
+    pub fn outline(self, k: usize) -> Outline
         requires { k < example_limit }
-        ensures { result ≡ outline_in self.now.kept self.now.prints k }
+        ensures { result ≡ outline_in self.entry.kept.now self.entry.prints.now k }
     {
         let at = k * Outline::WORDS;
         Outline {
-            places: word(&self.kept, at),
+            places: word(self.kept, at),
             print: self.prints[k],
-            first: word(&self.kept, at + 1),
-            label: word(&self.kept, at + 2),
+            first: word(self.kept, at + 1),
+            label: word(self.kept, at + 2),
         }
     }
+}
 
-    // Which of its listing's example k is.
-    pub fn turn(&self, k: usize) -> usize
-        requires { k < example_limit }
-        ensures { result ≡ turn_in self.now.kept k }
-    {
-        word(&self.kept, k * Outline::WORDS + 3)
-    }
+// Keeps the labels of example k of a side. The words alone are asked, here and below, as no print is written or read.
+pub fn keep_labels(labels: &[u16], kept: &mut [u16], k: usize)
+    requires { (length labels.now ≤ labels_room) × ((k < labelled_limit) × (kept_room ≤ length kept.old)) }
+    ensures { LabelsPut labels.now k kept.old kept.new }
+{
+    let at = Outline::OUTLINES + k * Outline::LABELLED_WORDS;
+    let from = at + 1;
+    let to = from + labels.len();
+    kept[from..to].copy_from_slice(labels);
+    kept[at] = labels.len() as u16;
+}
+
+// Example k of a side, whose labels are kept, at the front of the buffer.
+pub fn write_kept(grammar: Grammar, kept: &[u16], k: usize, buffer: &mut [u16])
+    requires within { (k < labelled_limit) × (kept_room ≤ length kept.now) }
+    requires example_room_in_bounds { ((x : ExampleOf) × KeptLabels (productions_in grammar.words.now grammar.productions) kept.now k x) × (example_room ≤ length buffer.old) }
+    ensures { (x : ExampleOf) → KeptLabels (productions_in grammar.entry.words.now grammar.entry.productions) kept.now k x → buffer.new ≡ in_front (example_words (productions_in grammar.entry.words.now grammar.entry.productions) x) buffer.old }
+{
+    let at = Outline::OUTLINES + k * Outline::LABELLED_WORDS;
+    let from = at + 1;
+    let to = from + word(kept, at);
+    let labels = Labels {
+        grammar,
+        words: &kept[from..to],
+    };
+    labels.write_example(buffer);
+}
+
+// Which of its listing's example k of a side is.
+pub fn turn_at(kept: &[u16], k: usize) -> usize
+    requires { (k < example_limit) × (outlines_room ≤ length kept.now) }
+    ensures { result ≡ turn_in kept.now k }
+{
+    word(kept, k * Outline::WORDS + 3)
 }
 
 // Whether at the first difference of two lists the FIRST sets are disjoint. An exhausted list is a no. A `for` that is left there: behind `find` a `match` would take the pair apart again, which is no shorter.

@@ -7,7 +7,7 @@ pub classify_kept-class-requires : goal.classify_kept-class-requires
 classify_kept-class-requires c =
     let A = side_gathers _ _ _ _ _ _ _ c.action_examples.ensures _ c.in_ok-own.was in
     let R = side_gathers _ _ _ _ _ _ _ (reduced-sided _ c.args.case.conflict _ _ _ (rw (c.reduced.ensures.table, c.reduced.ensures.conflict) at c.action_examples-2.ensures)) _ c.in_ok-found.was in
-    record { sides = (A.examples, (R.examples, (record { action = A.held; reduce = R.held }, (A.many, R.many)))); example_room_in_bounds = c.requires }
+    rw (c.read.ensures.0, c.read.ensures.1, c.read-2.ensures.0, c.read-2.ensures.1) (record { sides = (A.examples, (R.examples, (record { action = A.held; reduce = R.held }, (A.many, R.many)))); example_room_in_bounds = c.requires })
 
 pub returns-in_err-own : goal.returns-in_err-own
 returns-in_err-own c =
@@ -24,4 +24,4 @@ pub returns : goal.returns
 returns c =
     let A = side_gathers _ _ _ _ _ _ _ c.action_examples.ensures _ c.in_ok-own.was in
     let R = side_gathers _ _ _ _ _ _ _ (reduced-sided _ c.args.case.conflict _ _ _ (rw (c.reduced.ensures.table, c.reduced.ensures.conflict) at c.action_examples-2.ensures)) _ c.in_ok-found.was in
-    λ w. both-judged _ c.args.case.conflict w _ _ A.examples R.examples _ _ A.is R.is _ _ _ (c.classify_kept-class.ensures A.examples R.examples (record { action = A.held; reduce = R.held }) A.many R.many)
+    λ w. both-judged _ c.args.case.conflict w _ _ A.examples R.examples _ _ A.is R.is _ _ _ ((rw (c.read.ensures.0, c.read.ensures.1, c.read-2.ensures.0, c.read-2.ensures.1) at c.classify_kept-class.ensures) A.examples R.examples (record { action = A.held; reduce = R.held }) A.many R.many)

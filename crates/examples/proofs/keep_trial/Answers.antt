@@ -6,12 +6,12 @@ pub read_labels-labels-requires-clause-tried : goal.read_labels-labels-requires-
 read_labels-labels-requires-clause-tried c = c.requires.tried
 
 pub keep_labels-requires : goal.keep_labels-requires
-keep_labels-requires c = (c.read_labels-labels.result.fit.few, omega arith)
+keep_labels-requires c = (c.read_labels-labels.result.fit.few, (omega arith, c.keep.new.self.room.by_words))
 
 pub returns-then-count-lt-LABELLED : goal.returns-then-count-lt-LABELLED
 returns-then-count-lt-LABELLED c =
     let g = c.read_labels-labels.ensures.grammar in
-    λ es T p rest w. rw c.keep_labels.ensures.prints_after (trial_labelled _ _ _ _ (rw (g.0, g.1) at c.read_labels-labels.result.fit) (c.read_labels-labels.ensures.labels _ _ T p rest w) _ (rw (g.0, g.1) at c.outline_of.ensures.0) _ _ c.requires.count_in_bounds.0 _ _ c.args.side.now.room _ _ c.keep.ensures.kept_after c.keep.ensures.prints_after (omega arith) _ c.keep_labels.ensures.kept_after)
+    λ es T p rest w. trial_labelled _ _ _ _ (rw (g.0, g.1) at c.read_labels-labels.result.fit) (c.read_labels-labels.ensures.labels _ _ T p rest w) _ (rw (g.0, g.1) at c.outline_of.ensures.0) _ _ c.requires.count_in_bounds.0 _ _ c.args.side.now.room _ _ c.keep.ensures.kept_after c.keep.ensures.prints_after (omega arith) _ c.keep_labels.ensures
 
 pub returns-else-count-lt-LABELLED : goal.returns-else-count-lt-LABELLED
 returns-else-count-lt-LABELLED c =

@@ -14,7 +14,7 @@ abbrev pub invariant-loop-number : goal.invariant-loop-number
 invariant-loop-number l = ((length l.words ≡ trial_room) × (l.count + l.turn ≤ example_limit))
     × ((es : List TraceEdge) (start : Item) → Listable (productions_in l.filter.grammar.words.now l.filter.grammar.productions) es l.view.labels.owners.now l.view.labels.codes.now l.view.sources.bytes.now l.view.older.now l.view.latest.now start
     → Walk l.filter.sets.now.terminals l.filter.sets.now.map (productions_in l.filter.grammar.words.now l.filter.grammar.productions) (set_of l.filter.lookahead) es start l.words l.made
-    × Turn l.filter.sets.now.terminals l.filter.sets.now.map (productions_in l.filter.grammar.words.now l.filter.grammar.productions) (set_of l.filter.lookahead) es start l.shift l.count l.initial.side.kept l.initial.side.prints l.side.kept l.side.prints l.turn l.made)
+    × Turn l.filter.sets.now.terminals l.filter.sets.now.map (productions_in l.filter.grammar.words.now l.filter.grammar.productions) (set_of l.filter.lookahead) es start l.shift l.count l.initial.side.kept.now l.initial.side.prints.now l.side.kept.now l.side.prints.now l.turn l.made)
 
 abbrev pub decreases-loop-number : goal.decreases-loop-number
 decreases-loop-number l = example_limit - (l.count + l.turn)

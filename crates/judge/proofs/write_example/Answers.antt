@@ -17,11 +17,11 @@ returns-then-k-lt-LABELLED c = λ xs K h. c.write_kept.ensures (nth xs c.args.k)
 pub outline-outline-requires : goal.outline-outline-requires
 outline-outline-requires c = (kept-place _ _ _ c.requires.side_kept.0 _ _ c.requires.side_kept.1.0 c.args.k c.requires.side_kept.1.1).0
 
-pub turn-turn-requires : goal.turn-turn-requires
-turn-turn-requires c = (kept_turn _ _ _ c.requires.side_kept.0 _ _ c.requires.side_kept.1.0 c.args.k c.requires.side_kept.1.1).0
+pub turn_at-turn-requires : goal.turn_at-turn-requires
+turn_at-turn-requires c = kept_turn _ _ _ c.requires.side_kept.0 _ _ c.requires.side_kept.1.0 c.args.k c.requires.side_kept.1.1
 
 pub action_again-requires : goal.action_again-requires
 action_again-requires c = record { code_fits = λ e. kept-code _ _ _ c.requires.side_kept.0 _ _ c.requires.side_kept.1.0 c.args.k c.requires.side_kept.1.1 _ c.outline-outline.ensures (table_fits _ _ _ _ _ _ _ c.args.case.given.reads) e; example_room_in_bounds = c.requires.example_room_in_bounds }
 
 pub returns : goal.returns
-returns c = λ xs K h. c.action_again.ensures (nth xs c.args.k) (kept_again _ _ _ xs _ _ K c.args.k h _ c.outline-outline.ensures _ c.turn-turn.ensures)
+returns c = λ xs K h. c.action_again.ensures (nth xs c.args.k) (kept_again _ _ _ xs _ _ K c.args.k h _ c.outline-outline.ensures _ c.turn_at-turn.ensures)

@@ -10,7 +10,7 @@ use Rattle.judge.specs.Judging.{Sides, Ordered}
 use Rattle.judge.proofs.Judging.try_classify_ambiguity.Given as goal
 
 abbrev pub invariant-loop-i : goal.invariant-loop-i
-invariant-loop-i l = (xs ys : List Example) → Sides (meaning l.self.case.given.table.words.now) l.self.case.conflict xs ys l.self.actions.side.now.kept l.self.actions.side.now.prints l.self.reduces.side.now.kept l.self.reduces.side.now.prints → Ordered xs l.self.actions.order.now → Ordered ys l.self.reduces.order.now
+invariant-loop-i l = (xs ys : List Example) → Sides (meaning l.self.case.given.table.words.now) l.self.case.conflict xs ys l.self.actions.side.kept.now l.self.actions.side.prints.now l.self.reduces.side.kept.now l.self.reduces.side.prints.now → Ordered xs l.self.actions.order.now → Ordered ys l.self.reduces.order.now
     → first_from (λ x y. is_same_reading (meaning l.self.case.given.table.words.now).productions (nth xs x) (nth ys y)) l.self.actions.order.now l.self.reduces.order.now l.begin.0 l.begin.1 ≡ first_fit (λ x y. is_same_reading (meaning l.self.case.given.table.words.now).productions (nth xs x) (nth ys y)) l.self.actions.order.now l.self.reduces.order.now
 
 abbrev pub decreases-loop-i : goal.decreases-loop-i
