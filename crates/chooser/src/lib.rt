@@ -4,7 +4,7 @@
 
 mod chosen;
 
-ghost use Rattle.std.specs.Prelude.{◌≡◌, true, false, ◌&&◌, [], ◌+◌, ◌≤◌, ◌<◌, length, eqb};
+ghost use Rattle.std.specs.Prelude.{◌≡◌, true, ◌&&◌, [], ◌+◌, ◌≤◌, ◌<◌, length, eqb};
 ghost use Rattle.repr.specs.Sizes.{classify_scratch, entry_limit};
 ghost use Rattle.slices.specs.Lent.{zeroed};
 ghost use Rattle.lookahead.specs.Tokens.{has, members};

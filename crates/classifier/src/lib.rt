@@ -2,7 +2,7 @@
 
 #![tactic(auto)]
 
-ghost use Rattle.std.specs.Prelude.{◌≡◌, true, false, ◌&&◌, List, ℕ, ◌≤◌, ◌<◌, length, eqb};
+ghost use Rattle.std.specs.Prelude.{◌≡◌, true, ◌&&◌, List, ℕ, ◌≤◌, ◌<◌, length, eqb};
 ghost use Rattle.repr.specs.Sizes.{classify_scratch, example_room};
 ghost use Rattle.slices.specs.Lent.{zeroed};
 ghost use Rattle.table.specs.Decoded.{meaning};
@@ -10,7 +10,7 @@ ghost use Rattle.error.specs.Numbers.{reading_of};
 ghost use Rattle.error.specs.Sides.{gather};
 ghost use Rattle.error.specs.Judge.{Example, judged};
 ghost use Rattle.error.specs.Outcome.{outcome, place_is_fit, conflict_fits, gathered_outcome, classified_in, shown as shown_words};
-ghost use Rattle.examples.specs.Gathers.{SideKept, is_shift, action_made, reduce_made};
+ghost use Rattle.examples.specs.Gathers.{SideKept, is_shift, action_made};
 ghost use Rattle.judge.specs.Judging.{Sides, ShownFits, shown_in};
 ghost use Rattle.classifier.specs.Shown.{judged_words, shown_of};
 

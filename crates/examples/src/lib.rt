@@ -21,6 +21,7 @@ ghost use Rattle.error.specs.Judge.{Example as ExampleOf};
 ghost use Rattle.error.specs.Sides.{shift_side, reduce_side, action_side_of};
 ghost use Rattle.error.specs.Outcome.{conflict_fits};
 ghost use Rattle.outline.specs.Inline.{CodeFits};
+ghost use Rattle.outline.specs.Lent.{SameWords};
 ghost use Rattle.examples.specs.Reads.{Reads};
 ghost use Rattle.examples.specs.Listing.{listed_by, Listable};
 ghost use Rattle.examples.specs.Gathers.{ListedOn, Sided, shifts, shift_made, reduce_made, action_made, is_shift, reduced, traced_side, TrialsIn, PutBehind};
@@ -227,7 +228,8 @@ fn keep_trial(
 )
     requires tried { (es : List TraceEdge) × Tried (productions_in grammar.words.now grammar.productions) es edges.owners.now edges.codes.now words.now }
     requires count_in_bounds { (count < example_limit) × (turn < example_limit) }
-    ensures { (es : List TraceEdge) → Tried (productions_in grammar.entry.words.now grammar.entry.productions) es edges.entry.owners.now edges.entry.codes.now words.now → (p rest : List ℕ) → words.now ≡ trial_words p ++ rest → PutBehind (productions_in grammar.entry.words.now grammar.entry.productions) shift (labels_of (productions_in grammar.entry.words.now grammar.entry.productions) es p) turn count side.old.kept.now side.old.prints.now side.new.kept.now side.new.prints.now }
+    ensures put_behind { (es : List TraceEdge) → Tried (productions_in grammar.entry.words.now grammar.entry.productions) es edges.entry.owners.now edges.entry.codes.now words.now → (p rest : List ℕ) → words.now ≡ trial_words p ++ rest → PutBehind (productions_in grammar.entry.words.now grammar.entry.productions) shift (labels_of (productions_in grammar.entry.words.now grammar.entry.productions) es p) turn count side.old.kept.now side.old.prints.now side.new.kept.now side.new.prints.now }
+    ensures same { SameWords side.old side.new }
 {
     let mut room = [0u16; Example::ALL_LABEL_WORDS];
     let labels = read_labels(grammar, edges, words, &mut room);
@@ -248,6 +250,7 @@ fn list_outlines(
     requires listable { (es : List TraceEdge) × ((start : ItemOf) × Listable (productions_in filter.grammar.words.now filter.grammar.productions) es view.labels.owners.now view.labels.codes.now view.sources.bytes.now view.older.now view.latest.now start) }
     requires count_in_bounds { count ≤ example_limit }
     ensures listed_on { (es : List TraceEdge) (start : ItemOf) → Listable (productions_in filter.entry.grammar.words.now filter.entry.grammar.productions) es view.entry.labels.owners.now view.entry.labels.codes.now view.entry.sources.bytes.now view.entry.older.now view.entry.latest.now start → ListedOn (productions_in filter.entry.grammar.words.now filter.entry.grammar.productions) shift result count side.old.kept.now side.old.prints.now side.new.kept.now side.new.prints.now (listed_by filter.entry.sets.now.terminals filter.entry.sets.now.map (productions_in filter.entry.grammar.words.now filter.entry.grammar.productions) es (set_of filter.entry.lookahead) start count) }
+    ensures same { SameWords side.old side.new }
     ensures trials_in { TrialsIn trial_limit result }
 {
     let mut words = [0u16; View::TRIAL];
@@ -307,6 +310,7 @@ fn open_view(item: TableItem, trace: &mut OpenTrace, lists: &mut ViewLists) -> R
 fn list_item(item: TableItem, side: &mut Side, count: usize) -> Result<Gathered, Refusal>
     requires { count ≤ example_limit }
     ensures listed_on { ListedOn (meaning item.entry.given.table.words.now).productions (shifts item.entry.traced.action) result count side.old.kept.now side.old.prints.now side.new.kept.now side.new.prints.now (traced_side (meaning item.entry.given.table.words.now) item.entry.traced item.entry.lookahead count) }
+    ensures same { SameWords side.old side.new }
     ensures trials_in { TrialsIn trial_limit result }
 {
     let mut trace = OpenTrace::new();
@@ -320,7 +324,8 @@ fn list_item(item: TableItem, side: &mut Side, count: usize) -> Result<Gathered,
 
 // `shift_examples`: the items that shift the token in their order, each traced and listed before the next. (The traced item is made here and in `action_again`: a function of it would have a contract as long.)
 fn shift_examples(case: TableConflict, side: &mut Side) -> Result<Gathered, Refusal>
-    ensures { Sided (meaning case.entry.given.table.words.now) true (shift_made (meaning case.entry.given.table.words.now) case.entry.conflict.state.0) result side.new.kept.now side.new.prints.now (shift_side (meaning case.entry.given.table.words.now) case.entry.conflict.state.0 case.entry.conflict.token) }
+    ensures sided { Sided (meaning case.entry.given.table.words.now) true (shift_made (meaning case.entry.given.table.words.now) case.entry.conflict.state.0) result side.new.kept.now side.new.prints.now (shift_side (meaning case.entry.given.table.words.now) case.entry.conflict.state.0 case.entry.conflict.token) }
+    ensures same { SameWords side.old side.new }
 {
     let given = case.given;
     let state = case.conflict.state.0 as usize;
@@ -355,14 +360,16 @@ fn shift_examples(case: TableConflict, side: &mut Side) -> Result<Gathered, Refu
 
 // `reduce_examples`: the production at its end, filtered by the token.
 pub fn reduce_examples(case: TableReduction, side: &mut Side) -> Result<Gathered, Refusal>
-    ensures { Sided (meaning case.entry.given.table.words.now) false (reduce_made (meaning case.entry.given.table.words.now) case.entry.state.0 case.entry.production case.entry.token) result side.new.kept.now side.new.prints.now (reduce_side (meaning case.entry.given.table.words.now) case.entry.state.0 case.entry.production case.entry.token) }
+    ensures sided { Sided (meaning case.entry.given.table.words.now) false (reduce_made (meaning case.entry.given.table.words.now) case.entry.state.0 case.entry.production case.entry.token) result side.new.kept.now side.new.prints.now (reduce_side (meaning case.entry.given.table.words.now) case.entry.state.0 case.entry.production case.entry.token) }
+    ensures same { SameWords side.old side.new }
 {
     list_item(case.item(), side, 0)
 }
 
 // The side of the conflict's action.
 pub fn action_examples(case: TableConflict, side: &mut Side) -> Result<Gathered, Refusal>
-    ensures { Sided (meaning case.entry.given.table.words.now) (is_shift case.entry.conflict) (action_made (meaning case.entry.given.table.words.now) case.entry.conflict) result side.new.kept.now side.new.prints.now (action_side_of (meaning case.entry.given.table.words.now) case.entry.conflict.state.0 case.entry.conflict.action case.entry.conflict.operand case.entry.conflict.token) }
+    ensures sided { Sided (meaning case.entry.given.table.words.now) (is_shift case.entry.conflict) (action_made (meaning case.entry.given.table.words.now) case.entry.conflict) result side.new.kept.now side.new.prints.now (action_side_of (meaning case.entry.given.table.words.now) case.entry.conflict.state.0 case.entry.conflict.action case.entry.conflict.operand case.entry.conflict.token) }
+    ensures same { SameWords side.old side.new }
 {
     if case.conflict.is_shift() {
         shift_examples(case, side)

@@ -2,22 +2,18 @@
 
 #![tactic(auto)]
 
-ghost use Rattle.std.specs.Prelude.{◌≡◌, true, false, List, ◌+◌, ◌≤◌, ◌<◌, length, get_or, take, drop};
+ghost use Rattle.std.specs.Prelude.{◌≡◌, false, List, ◌+◌, ◌≤◌, ◌<◌, length, get_or};
 ghost use Rattle.repr.specs.Sizes.{example_room};
-ghost use Rattle.repr.specs.Meaning.{Table, Production, no_production, production_at, is_same_symbol};
-ghost use Rattle.repr.specs.Listed.{symbol_of_kind};
+ghost use Rattle.repr.specs.Meaning.{Production, no_production, production_at};
 ghost use Rattle.repr.specs.Packed.{productions_in};
-ghost use Rattle.slices.specs.Same.{same_words};
 ghost use Rattle.slices.specs.Lent.{in_front};
 ghost use Rattle.table.specs.Decoded.{meaning};
 ghost use Rattle.example.specs.Example.{example_words};
 ghost use Rattle.error.specs.Judge.{Example, is_same_reading, is_operator_of, ambiguity_of_shift, ambiguity_of_reduce, ambiguity_of, question_of, inline_or, unambiguous, judge};
 ghost use Rattle.error.specs.Sorted.{first_fit};
 ghost use Rattle.error.specs.Judge as judging;
-ghost use Rattle.error.specs.Outcome.{conflict_fits};
-ghost use Rattle.shift_items.specs.Codes.{Grammar as GrammarOf};
 ghost use Rattle.outline.specs.Kept.{nth};
-ghost use Rattle.examples.specs.Gathers.{SideKept, is_shift, action_made, reduce_made};
+ghost use Rattle.examples.specs.Gathers.{SideKept, is_shift, action_made};
 ghost use Rattle.judge.specs.Judging.{InBuffer, Sides, Ordered, picked, pair_in, heads_in, both, Judges, ReadAlike, question_in, optional_one};
 
 use error::Class;

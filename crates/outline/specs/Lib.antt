@@ -1,3 +1,4 @@
 pub mod Outline
 pub mod Kept
 pub mod Inline
+pub mod Lent

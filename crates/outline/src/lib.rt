@@ -2,11 +2,10 @@
 
 #![tactic(auto)]
 
-ghost use Rattle.std.specs.Prelude.{◌≡◌, ◌+◌, ◌*◌, ◌/◌, ◌%◌, ◌<◌, ◌≤◌, true, IfSome, MatchOption, length, slice_index, slice_set};
+ghost use Rattle.std.specs.Prelude.{◌≡◌, ◌+◌, ◌*◌, ◌/◌, ◌%◌, ◌<◌, ◌≤◌, true, IfSome, MatchOption, length, slice_set};
 ghost use Rattle.repr.specs.Sizes.{nonterminal_limit, terminal_limit, production_limit, index_limit, item_limit, labels_room, example_limit, example_room};
 ghost use Rattle.repr.specs.Lists.{joined};
-ghost use Rattle.repr.specs.Meaning.{is_same_symbol};
-ghost use Rattle.repr.specs.Listed.{symbol_of_kind, listed, symbol_is_fit, list_is_fit};
+ghost use Rattle.repr.specs.Listed.{listed, list_is_fit};
 ghost use Rattle.repr.specs.Packed.{productions_in};
 ghost use Rattle.slices.specs.Lent.{in_front};
 ghost use Rattle.example.specs.Example.{prefixes, suffixes, middle, symbol_words, example_words};
@@ -15,14 +14,14 @@ ghost use Rattle.example.specs.Written.{words_of};
 ghost use Rattle.error.specs.Judge.{Example as ExampleOf};
 ghost use Rattle.outline.specs.Outline.{print_limit, mix, symbol_code, print_of, print_words, label_word, label_of, outline_from, OutlineFits};
 ghost use Rattle.outline.specs.Kept.{outlines_room, labelled_limit, kept_room, KeptLabels, LabelsPut, Room, outline_in, turn_in, kept_with};
-ghost use Rattle.outline.specs.Inline.{apart, diverge_by, items_inline};
+ghost use Rattle.outline.specs.Inline.{diverge_by, items_inline};
 ghost use Rattle.trace_graph.specs.Fits.{item_is_fit};
 
 use error::Conflict;
 use example::{Example, Labels};
 use first::FirstSets;
 use lr1_core::Item;
-use repr::{Grammar, NonterminalString, Symbol, word};
+use repr::{Grammar, Symbol, word};
 
 // Places, a print of cursor and symbols, the nonterminal of the first reduction, the item that the inline test reads as one word (`item`).
 #[derive(Clone, Copy)]
@@ -181,10 +180,13 @@ pub struct Side<'a> {
 
 // Which example is asked is its number, in range at each call, here and below: a type for it would have to hold the side.
 impl<'a> Side<'a> {
+    ghost use Rattle.outline.specs.Lent.{SameWords};
+
     // Over the words lent.
     pub fn of(kept: &'a mut [u16], prints: &'a mut [u64]) -> Side<'a>
         requires { Room kept.old prints.old }
-        ensures { (result.kept.now ≡ kept.old) × (result.prints.now ≡ prints.old) }
+        ensures is { (result.kept.now ≡ kept.old) × (result.prints.now ≡ prints.old) }
+        ensures same { (result.kept.ghost_name ≡ kept.entry.ghost_name) × (result.prints.ghost_name ≡ prints.entry.ghost_name) }
     {
         Side { kept, prints }
     }
@@ -194,6 +196,7 @@ impl<'a> Side<'a> {
         requires { OutlineFits outline × (turn < example_limit) × (k < example_limit) }
         ensures kept_after { self.new.kept.now ≡ kept_with self.old.kept.now k outline turn }
         ensures prints_after { self.new.prints.now ≡ slice_set self.old.prints.now k outline.print }
+        ensures same { SameWords self.old self.new }
     {
         let at = k * Outline::WORDS;
         self.kept[at] = outline.places as u16;

@@ -1,5 +1,5 @@
 use Rattle.std.specs.Prelude.{ℕ}
-use mathlib.Core.Path.{◌∙◌}
+use mathlib.Core.Path.{refl, ◌∙◌}
 use lib.ListN.{length-replicate}
 use Rattle.view.specs.Trial.{trial_room}
 use Rattle.examples.proofs.Walks.{walk_searching, hits, hit-tried, walk_on, out-rest, over-rest}
@@ -8,7 +8,7 @@ use native.Mathlib.Omega.{arith}
 use Rattle.examples.proofs.list_outlines.Goals as goal
 
 pub loop-number-init : goal.loop-number-init
-loop-number-init c = ((length-replicate {A = ℕ} trial_room 0, omega (arith, c.requires.count_in_bounds)), λ es start L. (walk_zeros _ _ _ _ _ _, turn_first _ _ _ _ _ _ _ _ _ _ c.requires.count_in_bounds))
+loop-number-init c = ((length-replicate {A = ℕ} trial_room 0, omega (arith, c.requires.count_in_bounds), (refl, refl)), λ es start L. (walk_zeros _ _ _ _ _ _, turn_first _ _ _ _ _ _ _ _ _ _ c.requires.count_in_bounds))
 
 pub search-requires : goal.search-requires
 search-requires c = let X = c.requires.listable in record { searching = (X.0, (X.1.0, walk_searching _ _ _ _ _ _ _ _ _ _ _ X.1.1 _ _ (c.loop-number.invariant.1 _ _ X.1.1).0)) }
@@ -23,6 +23,7 @@ returns-then-count-turn-ge-EXAMPLES c = record {
       let H = hits _ _ _ _ _ _ _ _ _ _ _ L _ _ U.0 _ _ (c.search.ensures es start (walk_searching _ _ _ _ _ _ _ _ _ _ _ L _ _ U.0)) _ c.in-Hit.is in
       turn_full _ _ _ _ _ _ _ _ _ _ _ _ _ _ U.1 _ _ (H.next _) c.if-count-turn-ge-EXAMPLES.true);
   trials_in = trials-none _;
+  same = c.loop-number.invariant.0.2;
 }
 
 pub overflow_add-count-in-Hit : goal.overflow_add-count-in-Hit
@@ -40,13 +41,13 @@ loop-number-smaller c = omega (arith, c.if-count-turn-ge-EXAMPLES.false)
 
 pub loop-number-preserved : goal.loop-number-preserved
 loop-number-preserved c = let I = c.loop-number.invariant.0 in (
-  (c.search.auto.words ∙ I.0, omega (arith, c.if-count-turn-ge-EXAMPLES.false)),
+  (c.search.auto.words ∙ I.0, omega (arith, c.if-count-turn-ge-EXAMPLES.false), (c.keep_trial.ensures.same.0 ∙ I.2.0, c.keep_trial.ensures.same.1 ∙ I.2.1)),
   λ es start L.
       let U = c.loop-number.invariant.1 es start L in
       let A = c.search.ensures es start (walk_searching _ _ _ _ _ _ _ _ _ _ _ L _ _ U.0) in
       let H = hits _ _ _ _ _ _ _ _ _ _ _ L _ _ U.0 _ _ A _ c.in-Hit.is in
       let D = hit-tried _ _ _ _ _ _ _ _ _ _ _ L _ _ U.0 _ _ A _ c.in-Hit.is in
-      (walk_on _ _ _ _ _ _ _ _ _ _ _ L _ _ U.0 _ _ A _ c.in-Hit.is, turn_more _ _ _ _ _ _ _ _ _ _ _ _ _ _ U.1 _ _ (H.next _) (omega (arith, c.if-count-turn-ge-EXAMPLES.false)) _ _ (c.keep_trial.ensures es D H.found _ H.words)),
+      (walk_on _ _ _ _ _ _ _ _ _ _ _ L _ _ U.0 _ _ A _ c.in-Hit.is, turn_more _ _ _ _ _ _ _ _ _ _ _ _ _ _ U.1 _ _ (H.next _) (omega (arith, c.if-count-turn-ge-EXAMPLES.false)) _ _ (c.keep_trial.ensures.put_behind es D H.found _ H.words)),
 )
 
 pub overflow_add-result : goal.overflow_add-result
@@ -59,6 +60,7 @@ returns-in-Out c = let X = c.requires.listable in
           let U = c.loop-number.invariant.1 es start L in
           turn_out _ _ _ _ _ _ _ _ _ _ _ _ _ _ U.1 _ (out-rest _ _ _ _ _ _ _ _ _ _ _ L _ _ U.0 _ _ (c.search.ensures es start (walk_searching _ _ _ _ _ _ _ _ _ _ _ L _ _ U.0)) _ c.in-Out.is _));
       trials_in = trials-told _ _ (out_few _ _ _ _ _ _ _ _ W _ _ (c.search.ensures _ _ (walk_searching _ _ _ _ _ _ _ _ _ _ _ X.1.1 _ _ W)) _ c.in-Out.is);
+      same = c.loop-number.invariant.0.2;
     }
 
 pub returns-in-Over : goal.returns-in-Over
@@ -67,4 +69,5 @@ returns-in-Over c = record {
       let U = c.loop-number.invariant.1 es start L in
       turn_over _ _ _ _ _ _ _ _ _ _ _ _ _ _ U.1 (over-rest _ _ _ _ _ _ _ _ _ _ _ L _ _ U.0 _ _ (c.search.ensures es start (walk_searching _ _ _ _ _ _ _ _ _ _ _ L _ _ U.0)) c.in-Over.is _));
   trials_in = trials-none _;
+  same = c.loop-number.invariant.0.2;
 }

@@ -5,13 +5,14 @@ use Rattle.repr.specs.Packed.{productions_in}
 use Rattle.trace_graph.specs.Graph.{TraceEdge}
 use Rattle.enumerator.specs.Advance.{set_of}
 use Rattle.view.specs.Trial.{trial_room}
+use Rattle.outline.specs.Lent.{SameWords}
 use Rattle.examples.specs.Listing.{Listable}
 use Rattle.examples.proofs.Walks.{Walk}
 use Rattle.examples.proofs.Turns.{Turn}
 use Rattle.examples.proofs.list_outlines.Given as goal
 
 abbrev pub invariant-loop-number : goal.invariant-loop-number
-invariant-loop-number l = ((length l.words ≡ trial_room) × (l.count + l.turn ≤ example_limit))
+invariant-loop-number l = ((length l.words ≡ trial_room) × (l.count + l.turn ≤ example_limit) × SameWords l.initial.side l.side)
     × ((es : List TraceEdge) (start : Item) → Listable (productions_in l.filter.grammar.words.now l.filter.grammar.productions) es l.view.labels.owners.now l.view.labels.codes.now l.view.sources.bytes.now l.view.older.now l.view.latest.now start
     → Walk l.filter.sets.now.terminals l.filter.sets.now.map (productions_in l.filter.grammar.words.now l.filter.grammar.productions) (set_of l.filter.lookahead) es start l.words l.made
     × Turn l.filter.sets.now.terminals l.filter.sets.now.map (productions_in l.filter.grammar.words.now l.filter.grammar.productions) (set_of l.filter.lookahead) es start l.shift l.count l.initial.side.kept.now l.initial.side.prints.now l.side.kept.now l.side.prints.now l.turn l.made)
