@@ -1,3 +1,4 @@
 pub mod Order
 pub mod Codes
 pub mod Left
+pub mod Steps
