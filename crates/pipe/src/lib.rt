@@ -8,7 +8,7 @@ ghost use Rattle.pipe.specs.Given.{Holds};
 use little::{decode, encode};
 use repr::Refusal;
 use std::io;
-use streams::{Failed, PIECES, read, read_some, write};
+use streams::{Cut, Failed, PIECES, read, write};
 pub use table::{RECORD_WORDS, RECORDS};
 
 // The most words of a table, and their bytes.
@@ -49,6 +49,16 @@ impl From<Failed> for Stop {
     ghost from_gives = { λ _ stop. stop ≡ Said };
 
     fn from(_failed: Failed) -> Stop {
+        Stop::Failed
+    }
+}
+
+impl From<Cut> for Stop {
+    ghost use Rattle.pipe.specs.declared.Stop.TheVariants.{Failed as Said};
+
+    ghost from_gives = { λ _ stop. stop ≡ Said };
+
+    fn from(_cut: Cut) -> Stop {
         Stop::Failed
     }
 }
@@ -106,16 +116,24 @@ pub fn say_end<R: Eprint>(rt: &R, run: Result<(), Stop>) {
     }
 }
 
-// The rest, byte for byte. A loop has to end, so it counts its pieces.
-pub fn pass_on<R: io::Input + Print + Eprint>(rt: &R, bytes: &mut [u8]) -> Result<(), Failed> {
+// A piece of the rest, written as far as it was read; whether there may be more.
+fn pass_piece<R: io::Input + Print + Eprint>(rt: &R, bytes: &mut [u8]) -> Result<bool, Failed> {
+    let input = read(rt, bytes);
+    let got = match input {
+        Ok(got) => got,
+        Err(cut) => cut.got,
+    };
+    write(rt, &bytes[..got])?;
+    Ok(input? == bytes.len())
+}
+
+// The rest, byte for byte; what fails ends it. A loop has to end, so it counts its pieces.
+pub fn pass_on<R: io::Input + Print + Eprint>(rt: &R, bytes: &mut [u8]) {
     for _ in 0..PIECES {
-        let got = read_some(rt, bytes)?;
-        if got == 0 {
+        if !pass_piece(rt, bytes).unwrap_or(false) {
             break;
         }
-        write(rt, &bytes[..got])?;
     }
-    Ok(())
 }
 
 // Words as bytes, a table's most at a time.
@@ -144,13 +162,10 @@ pub fn write_records<R: Print + Eprint>(
 }
 
 // A table, then the rest of the input.
-pub fn write_table<R: io::Input + Print + Eprint>(
-    rt: &R,
-    table: &[u16],
-    bytes: &mut [u8],
-) -> Result<(), Failed>
+pub fn write_table<R: io::Input + Print + Eprint>(rt: &R, table: &[u16], bytes: &mut [u8])
     requires { (length table.now ≤ record_limit * 4) × (65536 ≤ length bytes.old) }
 {
-    write_records(rt, table, bytes)?;
-    pass_on(rt, bytes)
+    if write_records(rt, table, bytes).is_ok() {
+        pass_on(rt, bytes);
+    }
 }

@@ -40,7 +40,8 @@ fn write_states<R: io::Input + Print + Eprint>(
 {
     write_records(rt, table, bytes)?;
     write_words(rt, conflicts, bytes)?;
-    pass_on(rt, bytes)
+    pass_on(rt, bytes);
+    Ok(())
 }
 
 fn build_input<R: io::Input + Print + Eprint>(rt: &R) -> Result<(), Stop> {

@@ -1,7 +1,7 @@
 // Standard input and output for the programs: what fails is said on standard error. There is no exit status, so nothing else shows it.
 #![tactic(auto)]
 
-ghost use Rattle.std.specs.Prelude.{IfOk, length, ◌≤◌};
+ghost use Rattle.std.specs.Prelude.{IfOk, MatchResult, length, ◌≤◌};
 ghost use Rattle.streams.specs.Counts.{IsPrefixLen};
 
 use std::io;
@@ -13,6 +13,20 @@ pub const PIECES: u64 = 1099511627776;
 // A read or a write failed, and standard error says why.
 #[derive(Clone, Copy)]
 pub struct Failed;
+
+// A read failed, and standard error says why; so many bytes came before.
+#[derive(Clone, Copy)]
+pub struct Cut {
+    pub got: usize,
+}
+
+impl From<Cut> for Failed {
+    ghost from_gives = { λ _ _. Unit {0} };
+
+    fn from(_cut: Cut) -> Failed {
+        Failed
+    }
+}
 
 // A text's front, up to the number that std puts behind the system's text of an error.
 fn without_number(text: &str) -> &str {
@@ -50,13 +64,15 @@ pub fn read_some<R: io::Input + Eprint>(rt: &R, bytes: &mut [u8]) -> Result<usiz
         .map_err(|error| say_failed(rt, "standard input", error))
 }
 
-// Bytes until the buffer is full or the input ends; how many. It counts what each read gives, which no range does; where the input ends before, `read_exact` does not say how many.
-pub fn read<R: io::Input + Eprint>(rt: &R, bytes: &mut [u8]) -> Result<usize, Failed>
-    ensures { IfOk result (λ got. IsPrefixLen got bytes.new) }
+// Bytes until the buffer is full, the input ends or a read fails; how many. It counts what each read gives, which no range does; where the input ends before, `read_exact` does not say how many.
+pub fn read<R: io::Input + Eprint>(rt: &R, bytes: &mut [u8]) -> Result<usize, Cut>
+    ensures { MatchResult result (λ got. IsPrefixLen got bytes.new) (λ cut. IsPrefixLen cut.got bytes.new) }
 {
     let mut got: usize = 0;
     while got < bytes.len() {
-        let more = read_some(rt, &mut bytes[got..])?;
+        let Ok(more) = read_some(rt, &mut bytes[got..]) else {
+            return Err(Cut { got });
+        };
         if more == 0 {
             break;
         }

@@ -103,29 +103,34 @@ fn write_table<R: Print + Eprint>(
     write_records(rt, s, grammar, &mut marks, out)
 }
 
-// Conflicts of five words each, numbered on, and the words of one that is cut short.
+// Conflicts of five words each, numbered on.
 fn write_conflicts<R: Print + Eprint>(
     rt: &R,
-    words: &[u16],
+    conflicts: &[[u16; WORDS_OF_CONFLICT]],
     first: usize,
     out: &mut [u8; LINE],
 ) -> Result<(), Failed>
-    requires { (length words.now ≤ 20480) × (first < 1152921504606846976) }
+    requires { (length conflicts.now ≤ 4096) × (first < 1152921504606846976) }
 {
-    let (conflicts, left) = words.as_chunks::<{ WORDS_OF_CONFLICT }>();
     for (k, conflict) in conflicts.iter().enumerate() {
         write_numbers(rt, conflict, b" # conflict", first + k, out)?;
     }
-    if left.is_empty() {
+    Ok(())
+}
+
+// The words of a conflict that is cut short.
+fn write_left<R: Print + Eprint>(
+    rt: &R,
+    words: &[u16],
+    number: usize,
+    out: &mut [u8; LINE],
+) -> Result<(), Failed>
+    requires { length words.now ≤ 8 }
+{
+    if words.is_empty() {
         return Ok(());
     }
-    write_numbers(
-        rt,
-        left,
-        b" # a part of conflict",
-        first + conflicts.len(),
-        out,
-    )
+    write_numbers(rt, words, b" # a part of conflict", number, out)
 }
 
 // Bytes that are no words.
@@ -135,7 +140,7 @@ fn say_odd<R: Eprint>(rt: &R, bytes: usize) {
     }
 }
 
-// A piece of the rest; whether there may be more, a yes or no that a failing read or write does not answer.
+// A piece of the rest; whether there may be more, a yes or no that a failing read or write does not answer. A byte that is no word is said even where the words of the last conflict could not be written.
 fn text_piece<R: io::Input + Print + Eprint>(
     rt: &R,
     first: usize,
@@ -147,8 +152,11 @@ fn text_piece<R: io::Input + Print + Eprint>(
 {
     let got = read(rt, bytes)?;
     let n = decode(&bytes[..got], words);
-    write_conflicts(rt, &words[..n], first, out)?;
+    let (conflicts, left) = words[..n].as_chunks::<{ WORDS_OF_CONFLICT }>();
+    write_conflicts(rt, conflicts, first, out)?;
+    let written = write_left(rt, left, first + conflicts.len(), out);
     say_odd(rt, got);
+    written?;
     Ok(got == bytes.len())
 }
 

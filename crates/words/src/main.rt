@@ -169,12 +169,9 @@ fn read_piece<R: io::Input + Print + Eprint>(
     requires { Below (reader_of reader) 9223372036854775808 }
     ensures { IfOk result (λ more. IfSome more (λ next. Near (reader_of reader) (reader_of next) 65536)) }
 {
-    let got = match read(rt, bytes) {
-        Ok(got) => got,
-        Err(failed) => {
-            write(rt, b"\0")?;
-            return Err(failed);
-        }
+    let Ok(got) = read(rt, bytes) else {
+        write(rt, b"\0")?;
+        return Err(Failed);
     };
     let (place, end) = words_of(reader, &bytes[..got], out);
     write(rt, &out[..place])?;
