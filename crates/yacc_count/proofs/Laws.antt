@@ -23,7 +23,7 @@ use Rattle.yacc_said.specs.Said.{said_in, id_at, events_of, of_said}
 use Rattle.yacc_said.specs.declared.Saying.{Saying}
 use Rattle.yacc_said.specs.declared.Saying.TheVariants.{Lists, Opens, Defines, Uses, Shuts, Nothing}
 use Rattle.yacc_said.proofs.Laws.{said_same, said_turn}
-use Rattle.std.specs.Prelude.{Option as Answered, Some, None}
+use Rattle.std.specs.Prelude.{Option as Answered, Some, None, IfSome}
 use Rattle.yacc_count.specs.Counted.{long_of, counts_of, no_counts, counts_in, longer, closed, tallied, Within, Roomy}
 use Rattle.yacc_count.specs.declared.Counts.{Counts}
 use Rattle.yacc_count.specs.declared.Tally.{Tally}
@@ -139,11 +139,16 @@ tally_turn t at m y r inv v s w from past n L e q f =
     (λ es. ap (λ (k : Tally). tally_all k es) q ∙ tally_said s y (id_at t w from past) from past es ∙ ap (λ (k : Saying). tally_all y (events_of k (id_at t w from past) from past ++ es)) e)
 
 -- its numbers stay small
+longer_low : (k : Answered ℕ) (a n : ℕ) → IfSome k (λ p. p < a) → IfSome (longer k a n) (λ p. p < a + 1)
+unfolding longer
+longer_low (Some p) a n h = omega (arith, h)
+longer_low None a n h = cases (ltb symbol_limit n) (λ e. rw (e, longer) (omega arith)) (λ e. rw (e, longer) tt)
+
 within_more : (y : Tally) (at past : ℕ) → at ≤ past → Within y at → Within y past
 within_more y at past h W =
     let a = W.alternatives in
     let s = W.symbols in
-    record { alternatives = omega (arith, h, a); symbols = omega (arith, h, s) }
+    record { alternatives = omega (arith, h, a); symbols = omega (arith, h, s); long = W.long }
 
 pub roomy : (y : Tally) (at n : ℕ) → at ≤ n → n ≤ text_limit → Within y at → Roomy y
 roomy y at n h l W = within_more y at text_limit (omega (arith, h, l)) W
@@ -155,15 +160,15 @@ within-said Opens y at past h W = within_more y at past (omega (arith, h)) W
 within-said Defines y at past h W =
     let a = W.alternatives in
     let s = W.symbols in
-    record { alternatives = omega (arith, h, a); symbols = omega (arith, h, s) }
+    record { alternatives = omega (arith, h, a); symbols = omega (arith, h, s); long = W.long }
 within-said Uses y at past h W =
     let a = W.alternatives in
     let s = W.symbols in
-    record { alternatives = omega (arith, h, a); symbols = omega (arith, h, s) }
+    record { alternatives = omega (arith, h, a); symbols = omega (arith, h, s); long = W.long }
 within-said Shuts y at past h W =
     let a = W.alternatives in
     let s = W.symbols in
-    record { alternatives = omega (arith, h, a); symbols = omega (arith, h, s) }
+    record { alternatives = omega (arith, h, a); symbols = omega (arith, h, s); long = longer_low y.counts.long y.counts.alternatives y.body W.long }
 within-said Nothing y at past h W = within_more y at past (omega (arith, h)) W
 
 pub within_turn : (v y : Tally) (s : Saying) (t : List ℕ) (at : ℕ) (w : Word) (from past : ℕ) → Leads t at w from past → v ≡ tallied y s → Within y at → Within v past

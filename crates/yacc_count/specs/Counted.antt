@@ -1,5 +1,5 @@
 -- The counts of a text's alternatives, and as the loop makes them. Assumes nothing: these are definitions.
-use Rattle.std.specs.Prelude.{ℕ, ◌+◌, ◌≤◌, true, false, List, [], map, Option as Answered, Some, None, ltb, length}
+use Rattle.std.specs.Prelude.{ℕ, ◌+◌, ◌≤◌, ◌<◌, true, false, List, [], map, Option as Answered, Some, None, IfSome, ltb, length}
 use Rattle.std.proofs.Math.Option.{none, some}
 use Rattle.repr.specs.Sizes.{symbol_limit}
 use Rattle.spelling.specs.Spelled.{size_of}
@@ -45,10 +45,11 @@ tallied y Uses = record { counts = y.counts; body = y.body + 1 }
 tallied y Shuts = closed y
 tallied y Nothing = y
 
--- nothing in it is above the bytes that were read
+-- nothing in it is above the bytes that were read, and the first that is too long is one of the closed
 pub record Within (y : Tally) (at : ℕ) : Type 0 where
   pub alternatives : y.counts.alternatives ≤ at
   pub symbols : y.counts.symbols + y.body ≤ at
+  pub long : IfSome y.counts.long (λ p. p < y.counts.alternatives)
 
 abbrev pub Roomy : Tally → Type 0
 Roomy y = Within y text_limit

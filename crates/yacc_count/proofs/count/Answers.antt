@@ -8,7 +8,7 @@ use native.Mathlib.Omega.{arith}
 use Rattle.yacc_count.proofs.count.Goals as goal
 
 pub loop-lexeme-init : goal.loop-lexeme-init
-loop-lexeme-init c = rw (zero_tally c.default-tally.result c.default-tally.ensures) (omega arith, record { alternatives = omega arith; symbols = omega arith }, tally_whole c.args.text.now)
+loop-lexeme-init c = rw (zero_tally c.default-tally.result c.default-tally.ensures) (omega arith, record { alternatives = omega arith; symbols = omega arith; long = tt }, tally_whole c.args.text.now)
 
 pub next_token-requires : goal.next_token-requires
 next_token-requires c = c.loop-lexeme.invariant.0
