@@ -2,9 +2,9 @@
 
 #![tactic(auto)]
 
-ghost use Rattle.std.specs.Prelude.{true, ◌≡◌, List, [], ◌∷◌, ℕ, ◌+◌, ◌≤◌, ◌<◌, length, get_or};
+ghost use Rattle.std.specs.Prelude.{true, ◌≡◌, List, [], ◌∷◌, ◌+◌, ◌≤◌, ◌<◌, length, get_or};
 ghost use Rattle.repr.specs.Lists.{joined};
-ghost use Rattle.yacc_text.specs.Grammar.{byte_limit, text_limit, quoted};
+ghost use Rattle.yacc_text.specs.Grammar.{byte_limit, quoted};
 ghost use Rattle.yacc_tokens.specs.Accepted.{mode_of, is_grammar_text};
 ghost use Rattle.yacc_read.specs.Source.{Known, left_side, token_use};
 ghost use Rattle.yacc_said.specs.Said.{id_at, events_of};
@@ -13,7 +13,7 @@ ghost use Rattle.yacc_names.specs.Names.{held, is_name, latest};
 ghost use Rattle.yacc_numbers.specs.Numbers.{place_in};
 ghost use Rattle.yacc_enter.specs.Props.{Kept-prop, Named-prop};
 ghost use Rattle.yacc_enter.specs.Ids.{Kept, is_id, Within, Fresh, NoQuote, name_at, Named};
-ghost use Rattle.yacc_enter.specs.Words.{Ready, Places, Enters};
+ghost use Rattle.yacc_enter.specs.Words.{Ready, Places};
 
 use yacc_lex::{Lexeme, Word};
 use yacc_names::{BUCKETS, Placed, find, place};
@@ -59,16 +59,21 @@ pub struct Words<'a> {
     pub tokens: &'a mut [u16],
 }
 
-// The ids of a text of the grammar, entered: its names by their places with their index, the numbers of those that are left sides, of the literals and of the names that are tokens.
+// Ids of a text: names by their places with their index, and words for the numbers of those that are left sides, of the literals and of the names that are tokens.
 #[derive(Drop)]
-pub struct SymbolTable<'a> {
+pub struct IdTable<'a> {
     pub text: &'a [u8],
     pub words: Words<'a>,
     pub counts: Ids,
     pub ghost kept: { Kept text.now words.starts.now words.pasts.now words.ix.now words.lefts.now words.tokens.now counts } by { Kept-prop text.now words.starts.now words.pasts.now words.ix.now words.lefts.now words.tokens.now counts },
-    pub ghost named: { Named text.now words.starts.now words.pasts.now words.ix.now words.lefts.now words.tokens.now counts } by { Named-prop text.now words.starts.now words.pasts.now words.ix.now words.lefts.now words.tokens.now counts },
-    pub ghost grammar: { is_grammar_text text.now ≡ true },
-    pub ghost short: { length text.now ≤ text_limit },
+}
+
+// All ids of a text of the grammar, entered and numbered.
+#[derive(Drop)]
+pub struct SymbolTable<'a> {
+    pub ids: IdTable<'a>,
+    pub ghost named: { Named ids.text.now ids.words.starts.now ids.words.pasts.now ids.words.ix.now ids.words.lefts.now ids.words.tokens.now ids.counts } by { Named-prop ids.text.now ids.words.starts.now ids.words.pasts.now ids.words.ix.now ids.words.lefts.now ids.words.tokens.now ids.counts },
+    pub ghost grammar: { is_grammar_text ids.text.now ≡ true },
 }
 
 // The number that a word holds, if it holds one.
@@ -79,26 +84,8 @@ fn number_at(words: &[u16], i: usize) -> Option<u16>
     words[i].checked_sub(1)
 }
 
-impl<'a> SymbolTable<'a> {
+impl<'a> IdTable<'a> {
     ghost use Rattle.yacc_enter.specs.Table.{Holds};
-
-    // Those of a text of the grammar.
-    pub fn enter(text: &'a [u8], words: Words<'a>) -> SymbolTable<'a>
-        requires { Fresh text.now words.starts.now words.pasts.now words.ix.now words.lefts.now words.tokens.now × (is_grammar_text text.now ≡ true) }
-        ensures { result.text.now ≡ text.now }
-    {
-        let mut entering = Entering {
-            text,
-            words,
-            counts: Ids::default(),
-        };
-        entering.enter_all();
-        SymbolTable {
-            text: entering.text,
-            words: entering.words,
-            counts: entering.counts,
-        }
-    }
 
     // The number of a name, as the names were entered. (That a lexeme lies in the text is asked wherever it meets the table, here and in the crates above: one that held a text would still not say that it is the table's.)
     fn find(&self, lexeme: Lexeme) -> Option<usize>
@@ -137,6 +124,27 @@ impl<'a> SymbolTable<'a> {
             Word::Literal => number_at(self.words.tokens, byte(self.text, lexeme.from + 1)),
             _ => None,
         }
+    }
+}
+
+impl<'a> SymbolTable<'a> {
+    // Those of a text of the grammar.
+    pub fn enter(text: &'a [u8], words: Words<'a>) -> SymbolTable<'a>
+        requires { Fresh text.now words.starts.now words.pasts.now words.ix.now words.lefts.now words.tokens.now × (is_grammar_text text.now ≡ true) }
+        ensures { result.ids.text.now ≡ text.now }
+    {
+        let mut entering = Entering {
+            text,
+            words,
+            counts: Ids::default(),
+        };
+        entering.enter_all();
+        let ids = IdTable {
+            text: entering.text,
+            words: entering.words,
+            counts: entering.counts,
+        };
+        SymbolTable { ids }
     }
 }
 

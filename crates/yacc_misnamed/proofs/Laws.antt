@@ -4,26 +4,21 @@ use native.Mathlib.Omega.{arith}
 use mathlib.Core.Bool.{Bool, true, false, ◌&&◌, ◌||◌, not}
 use mathlib.Core.Path.{◌≡◌, refl, sym, ap, ◌∙◌}
 use mathlib.Core.List.{List, [], ◌∷◌}
-use mathlib.Core.Option.{some}
 use lib.Dec.{eqb}
 use borrow.Author.Tests.{eq-eqb, ne_eqb}
-use Rattle.repr.specs.Lists.{some?, joined}
+use Rattle.repr.specs.Lists.{some?}
 use Rattle.repr.proofs.Lists.{cases, clash}
 use Rattle.repr.proofs.Tests.{some?-nil, some?-yes, some?_no, some?-cons}
-use Rattle.yacc_text.specs.Grammar.{Id, Layout}
-use Rattle.yacc_text.specs.Parse.{parse}
-use Rattle.yacc_text.specs.Places.{placed_from}
+use Rattle.yacc_text.specs.Grammar.{Id}
 use Rattle.yacc_text.specs.Forward.{Mode, top, wanted, listed, starting, ruled, sided, bodied, done, dead}
 use Rattle.yacc_lex.specs.declared.Word.{Word}
 use Rattle.yacc_lex.specs.declared.Word.TheVariants.{Name, Literal, Token, Start, Mark, Colon, Bar, Semi}
-use Rattle.yacc_read.specs.Events.{Event}
-use Rattle.yacc_read.specs.Source.{same_id, Known, is_known, number_in, start_use, Source, source_of}
-use Rattle.yacc_read.specs.Outcome.{nowhere, undefined_use, named_both_ways, undefined_start, misnamed, source_in}
+use Rattle.yacc_read.specs.Source.{same_id, Known, is_known, number_in, Source}
+use Rattle.yacc_read.specs.Outcome.{nowhere}
 use Rattle.yacc_read.proofs.Known.{same_id_lem, same_id_eq, known_cons, known_none}
-use Rattle.yacc_said.specs.Said.{end_said, said_in, of_said}
+use Rattle.yacc_said.specs.Said.{end_said, said_in}
 use Rattle.yacc_said.specs.declared.Saying.{Saying}
 use Rattle.yacc_said.specs.declared.Saying.TheVariants.{Lists, Opens, Defines, Uses, Shuts, Nothing}
-use Rattle.yacc_said.proofs.Laws.{said-whole}
 use Rattle.std.proofs.Common.{Option as Answer, Some, None}
 use Rattle.std.specs.Option.{is_some}
 use Rattle.yacc_names.specs.Names.{held}
@@ -58,7 +53,7 @@ by_word : (b : Bool) (n w : ℕ) → w ≡ elim b [ true ↦ suc n | false ↦ 0
 by_word true n w e = sym (ap not (ne_eqb w 0 (λ z. omega (arith, e, z))))
 by_word false n w e = sym (ap not (eq-eqb w 0 e))
 
-placed_known : (ks : List Known) (x : Id) (w : ℕ) → w ≡ place_in ks x → is_known ks x ≡ not (eqb w 0)
+pub placed_known : (ks : List Known) (x : Id) (w : ℕ) → w ≡ place_in ks x → is_known ks x ≡ not (eqb w 0)
 unfolding place_in
 placed_known ks x w e = by_word (is_known ks x) (number_in ks x) w e
 
@@ -121,13 +116,3 @@ start_word m w s e q = id_word m w (sym (ap of_id e) ∙ ap of_id q)
 pub define_word : (m : Mode) (w : Word) (s : Saying) → s ≡ said_in m w → s ≡ Defines → is_id w ≡ true
 unfolding of_id
 define_word m w s e q = id_word m w (sym (ap of_id e) ∙ ap of_id q)
-
--- the two parts of 21 that are asked behind the uses, each by itself
-module _ (S : Source) where
-  pub misnamed-start : (r : Bool) → false ≡ undefined_use S → false ≡ named_both_ways S → r ≡ undefined_start S → r ≡ misnamed S
-  unfolding misnamed
-  misnamed-start r f g e = e ∙ ap (λ (b : Bool). b || undefined_start S) g ∙ ap (λ (b : Bool). b || (named_both_ways S || undefined_start S)) f
-
-pub lost-first : (t : List ℕ) (l : Layout) → parse t ≡ some l → of_said true (λ (es : List Event). some? (λ (x : Id). not (is_known (source_in l.pieces).nonterminals x)) (joined start_use es)) (top false) (placed_from t 0) ≡ undefined_start (source_in l.pieces)
-unfolding source_in source_of undefined_start
-lost-first t l e = said-whole true (λ (es : List Event). some? (λ (x : Id). not (is_known (source_in l.pieces).nonterminals x)) (joined start_use es)) t l e

@@ -6,7 +6,7 @@ ghost use Rattle.std.specs.Prelude.{◌≡◌, List, ◌+◌, ◌≤◌, ◌<◌
 ghost use Rattle.std.proofs.Math.Option.{some};
 ghost use Rattle.slices.specs.Lent.{in_front};
 ghost use Rattle.repr.specs.Lists.{joined};
-ghost use Rattle.yacc_text.specs.Grammar.{Layout};
+ghost use Rattle.yacc_text.specs.Grammar.{Layout, text_limit};
 ghost use Rattle.yacc_text.specs.Parse.{parse};
 ghost use Rattle.yacc_read.specs.Source.{Known, left_side, token_use};
 ghost use Rattle.yacc_read.specs.Meaning.{places_of, start_of};
@@ -16,28 +16,28 @@ ghost use Rattle.yacc_names.specs.Names.{held};
 ghost use Rattle.yacc_enter.specs.Table.{Holds};
 ghost use Rattle.yacc_places.specs.Placed.{entered_place, written_to, written_in};
 
-use yacc_enter::SymbolTable;
+use yacc_enter::{IdTable, SymbolTable};
 use yacc_lex::Word;
 use yacc_said::{Saying, Token, TokenIter};
 
 // The number of the nonterminal that a word enters.
-fn left_said(symbols: &SymbolTable, token: Token) -> Option<u16>
-    requires { token.lexeme.past ≤ length symbols.now.text.now }
-    ensures { (ns ts : List Known) → Holds symbols.now ns ts → held result ≡ entered_place ns (joined left_side (events_of token.what (id_at symbols.now.text.now token.lexeme.word token.lexeme.from token.lexeme.past) token.lexeme.from token.lexeme.past)) }
+fn left_said(ids: &IdTable, token: Token) -> Option<u16>
+    requires { token.lexeme.past ≤ length ids.now.text.now }
+    ensures { (ns ts : List Known) → Holds ids.now ns ts → held result ≡ entered_place ns (joined left_side (events_of token.what (id_at ids.now.text.now token.lexeme.word token.lexeme.from token.lexeme.past) token.lexeme.from token.lexeme.past)) }
 {
     match token.what {
-        Saying::Defines => symbols.left(token.lexeme),
+        Saying::Defines => ids.left(token.lexeme),
         _ => None,
     }
 }
 
 // The number of the terminal that a word enters: in a body a literal enters one, and a name none.
-fn token_said(symbols: &SymbolTable, token: Token) -> Option<u16>
-    requires { token.lexeme.past ≤ length symbols.now.text.now }
-    ensures { (ns ts : List Known) → Holds symbols.now ns ts → held result ≡ entered_place ts (joined token_use (events_of token.what (id_at symbols.now.text.now token.lexeme.word token.lexeme.from token.lexeme.past) token.lexeme.from token.lexeme.past)) }
+fn token_said(ids: &IdTable, token: Token) -> Option<u16>
+    requires { token.lexeme.past ≤ length ids.now.text.now }
+    ensures { (ns ts : List Known) → Holds ids.now ns ts → held result ≡ entered_place ts (joined token_use (events_of token.what (id_at ids.now.text.now token.lexeme.word token.lexeme.from token.lexeme.past) token.lexeme.from token.lexeme.past)) }
 {
     match (token.what, token.lexeme.word) {
-        (Saying::Lists, _) | (Saying::Uses, Word::Literal) => symbols.token(token.lexeme),
+        (Saying::Lists, _) | (Saying::Uses, Word::Literal) => ids.token(token.lexeme),
         _ => None,
     }
 }
@@ -69,16 +69,17 @@ fn write_place(places: &mut [u16], n: usize, number: Option<u16>, from: usize) -
 
 // The places of a text whose ids are entered: for each nonterminal by number the first byte of its first left side, then for each terminal by number that of the occurrence that numbered it.
 pub fn write_places(symbols: &SymbolTable, places: &mut [u16])
-    requires { symbols.now.counts.nonterminals + symbols.now.counts.terminals ≤ length places.old }
-    ensures { (l : Layout) → parse symbols.now.text.now ≡ some l → places.new ≡ in_front (places_of (source_in l.pieces)) places.old }
+    requires short { length symbols.now.ids.text.now ≤ text_limit }
+    requires room { symbols.now.ids.counts.nonterminals + symbols.now.ids.counts.terminals ≤ length places.old }
+    ensures { (l : Layout) → parse symbols.now.ids.text.now ≡ some l → places.new ≡ in_front (places_of (source_in l.pieces)) places.old }
 {
-    let (lefts, tokens) = places.split_at_mut(symbols.counts.nonterminals);
+    let (lefts, tokens) = places.split_at_mut(symbols.ids.counts.nonterminals);
     // Counted by hand: how many are written, to which not every word adds.
     let mut n: usize = 0;
     let mut m: usize = 0;
-    for token in TokenIter::new(symbols.text) {
-        let left = left_said(symbols, token);
-        let right = token_said(symbols, token);
+    for token in TokenIter::new(symbols.ids.text) {
+        let left = left_said(&symbols.ids, token);
+        let right = token_said(&symbols.ids, token);
         n = write_place(lefts, n, left, token.lexeme.from);
         m = write_place(tokens, m, right, token.lexeme.from);
     }
@@ -86,14 +87,14 @@ pub fn write_places(symbols: &SymbolTable, places: &mut [u16])
 
 // The start nonterminal: the START id's number, else 0. (Where 21 refuses the START id it is the number behind the last.)
 pub fn start_of(symbols: &SymbolTable) -> usize
-    ensures { (l : Layout) → parse symbols.now.text.now ≡ some l → result ≡ start_of (source_in l.pieces).nonterminals (source_in l.pieces).starts }
+    ensures { (l : Layout) → parse symbols.now.ids.text.now ≡ some l → result ≡ start_of (source_in l.pieces).nonterminals (source_in l.pieces).starts }
 {
-    let mut tokens = TokenIter::new(symbols.text);
+    let mut tokens = TokenIter::new(symbols.ids.text);
     let Some(token) = tokens.find(|token| matches!(token.what, Saying::Opens)) else {
         return 0;
     };
-    match symbols.left(token.lexeme) {
+    match symbols.ids.left(token.lexeme) {
         Some(number) => usize::from(number),
-        None => symbols.counts.nonterminals,
+        None => symbols.ids.counts.nonterminals,
     }
 }

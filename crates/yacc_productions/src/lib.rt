@@ -4,10 +4,11 @@
 
 ghost use Rattle.std.specs.Prelude.{true, ◌≡◌, List, ℕ, ◌+◌, ◌≤◌, ◌<◌, length};
 ghost use Rattle.std.proofs.Math.Option.{some};
+ghost use Rattle.repr.specs.Sizes.{grammar_room};
 ghost use Rattle.repr.specs.Symbols.{meant};
 ghost use Rattle.spelling.specs.Spelled.{kind_of, number_of};
 ghost use Rattle.grammar_records.specs.Target.{PackedAs};
-ghost use Rattle.yacc_text.specs.Grammar.{Layout};
+ghost use Rattle.yacc_text.specs.Grammar.{Layout, text_limit};
 ghost use Rattle.yacc_text.specs.Parse.{parse};
 ghost use Rattle.yacc_text.specs.Forward.{Mode as TextMode, move};
 ghost use Rattle.yacc_lex.specs.Steps.{token_at, Leads};
@@ -22,7 +23,7 @@ ghost use Rattle.yacc_productions.specs.Turn.{Small, Added, Closed, Turn};
 
 use repr::{ProductionIndex, Symbol};
 use table::{RECORD_WORDS, put};
-use yacc_enter::SymbolTable;
+use yacc_enter::{IdTable, SymbolTable};
 use yacc_lex::Lexeme;
 use yacc_said::{Saying, Token, TokenIter};
 use yacc_symbols::symbol;
@@ -40,21 +41,17 @@ struct Body {
 }
 
 // The number of the nonterminal of a left side.
-fn left_number(symbols: &SymbolTable, lexeme: Lexeme) -> usize
-    requires { lexeme.past ≤ length symbols.now.text.now }
-    ensures { (result < 65536) × (is_id lexeme.word ≡ true → (ns ts : List Known) → Holds symbols.now ns ts → is_known ns (id_at symbols.now.text.now lexeme.word lexeme.from lexeme.past) ≡ true → result ≡ number_in ns (id_at symbols.now.text.now lexeme.word lexeme.from lexeme.past)) }
+fn left_number(ids: &IdTable, lexeme: Lexeme) -> usize
+    requires { lexeme.past ≤ length ids.now.text.now }
+    ensures { (result < 65536) × (is_id lexeme.word ≡ true → (ns ts : List Known) → Holds ids.now ns ts → is_known ns (id_at ids.now.text.now lexeme.word lexeme.from lexeme.past) ≡ true → result ≡ number_in ns (id_at ids.now.text.now lexeme.word lexeme.from lexeme.past)) }
 {
-    usize::from(symbols.left(lexeme).unwrap_or(0))
+    usize::from(ids.left(lexeme).unwrap_or(0))
 }
 
 impl Body {
     // Puts a symbol behind those of the body, if there is room.
-    fn add(
-        self,
-        grammar: &mut [u16; ProductionIndex::ALL_WORDS],
-        read: Symbol,
-        lexeme: Lexeme,
-    ) -> Body
+    fn add(self, grammar: &mut [u16], read: Symbol, lexeme: Lexeme) -> Body
+        requires long { length grammar.old ≡ grammar_room }
         requires small { Small self }
         requires past_bound { lexeme.past < 65536 }
         ensures { Small result × Added grammar.old grammar.new self result (kind_of (meant read)) (number_of (meant read)) lexeme.from lexeme.past }
@@ -77,7 +74,8 @@ impl Body {
     }
 
     // Closes the body: the words in front of its symbols.
-    fn close(self, grammar: &mut [u16; ProductionIndex::ALL_WORDS], at: usize) -> Body
+    fn close(self, grammar: &mut [u16], at: usize) -> Body
+        requires long { length grammar.old ≡ grammar_room }
         requires small { Small self }
         requires at_bound { at < 65536 }
         ensures { Small result × Closed grammar.old grammar.new self result at }
@@ -103,25 +101,21 @@ impl Body {
 }
 
 // What a word says is packed.
-fn step(
-    symbols: &SymbolTable,
-    grammar: &mut [u16; ProductionIndex::ALL_WORDS],
-    body: Body,
-    token: Token,
-) -> Body
-    requires inside { token.lexeme.past ≤ length symbols.now.text.now }
+fn step(ids: &IdTable, grammar: &mut [u16], body: Body, token: Token) -> Body
+    requires inside { (token.lexeme.past ≤ length ids.now.text.now) × (length ids.now.text.now ≤ text_limit) }
+    requires long { length grammar.old ≡ grammar_room }
     requires small { Small body }
     ensures small { Small result }
-    ensures turn { (S : Source) → Holds symbols.now S.nonterminals S.terminals → Whole S → (mode : TextMode) (at : ℕ) (n : TextMode) → Leads symbols.now.text.now at token.lexeme.word token.lexeme.from token.lexeme.past → token.what ≡ said_in mode token.lexeme.word → n ≡ move mode (token_at symbols.now.text.now token.lexeme.word token.lexeme.from token.lexeme.past) → Turn S symbols.now.text.now grammar.old body mode at → Turn S symbols.now.text.now grammar.new result n token.lexeme.past }
+    ensures turn { (S : Source) → Holds ids.now S.nonterminals S.terminals → Whole S → (mode : TextMode) (at : ℕ) (n : TextMode) → Leads ids.now.text.now at token.lexeme.word token.lexeme.from token.lexeme.past → token.what ≡ said_in mode token.lexeme.word → n ≡ move mode (token_at ids.now.text.now token.lexeme.word token.lexeme.from token.lexeme.past) → Turn S ids.now.text.now grammar.old body mode at → Turn S ids.now.text.now grammar.new result n token.lexeme.past }
 {
     match token.what {
         Saying::Defines => Body {
             production: body.production,
-            owner: left_number(symbols, token.lexeme),
+            owner: left_number(ids, token.lexeme),
             ..Body::default()
         },
         Saying::Uses => {
-            let read = symbol(symbols, token.lexeme);
+            let read = symbol(ids, token.lexeme);
             body.add(grammar, read, token.lexeme)
         }
         Saying::Shuts => body.close(grammar, token.lexeme.from),
@@ -129,14 +123,16 @@ fn step(
     }
 }
 
-// The productions of a text whose ids are entered, packed; how many there are. (Fixed words and how many of them are used, since there is no heap.)
-pub fn pack(symbols: &SymbolTable, grammar: &mut [u16; ProductionIndex::ALL_WORDS]) -> usize
-    requires readable { (l : Layout) → parse symbols.now.text.now ≡ some l → Readable (source_in l.pieces) }
-    ensures { (l : Layout) → parse symbols.now.text.now ≡ some l → (result ≡ length (source_in l.pieces).alternatives) × PackedAs (table_of (source_in l.pieces)) grammar.new result }
+// The productions of a text whose ids are entered, packed; how many there are. (Fixed words and how many of them are used, since there is no heap; a slice, since an array of their size would ask more of callers.)
+pub fn pack(symbols: &SymbolTable, grammar: &mut [u16]) -> usize
+    requires short { length symbols.now.ids.text.now ≤ text_limit }
+    requires long { length grammar.old ≡ grammar_room }
+    requires readable { (l : Layout) → parse symbols.now.ids.text.now ≡ some l → Readable (source_in l.pieces) }
+    ensures { (l : Layout) → parse symbols.now.ids.text.now ≡ some l → (result ≡ length (source_in l.pieces).alternatives) × PackedAs (table_of (source_in l.pieces)) grammar.new result }
 {
     let mut body = Body::default();
-    for token in TokenIter::new(symbols.text) {
-        body = step(symbols, grammar, body, token);
+    for token in TokenIter::new(symbols.ids.text) {
+        body = step(&symbols.ids, grammar, body, token);
     }
     body.production
 }

@@ -34,8 +34,9 @@ fn write_read(
     table: &mut [u16],
     places: &mut [u16],
 ) -> Result<Reading, Refusal>
-    requires passes { (l : Layout) → parse symbols.now.text.now ≡ some l → Passes (source_in l.pieces) table.old places.old }
-    ensures { (l : Layout) → parse symbols.now.text.now ≡ some l → record { answer = reply_of result; table = table.new; places = places.new } ≡ counted_of (source_in l.pieces) table.old places.old }
+    requires short { length symbols.now.ids.text.now ≤ text_limit }
+    requires passes { (l : Layout) → parse symbols.now.ids.text.now ≡ some l → Passes (source_in l.pieces) table.old places.old }
+    ensures { (l : Layout) → parse symbols.now.ids.text.now ≡ some l → record { answer = reply_of result; table = table.new; places = places.new } ≡ counted_of (source_in l.pieces) table.old places.old }
 {
     let mut words = [0u16; ProductionIndex::ALL_WORDS];
     let productions = pack(symbols, &mut words);
@@ -44,15 +45,15 @@ fn write_read(
         productions,
     };
     let counts = Counts {
-        nonterminals: symbols.counts.nonterminals,
-        terminals: symbols.counts.terminals,
+        nonterminals: symbols.ids.counts.nonterminals,
+        terminals: symbols.ids.counts.terminals,
         states: 1,
         productions,
     };
     let started = write_started(grammar, counts, 0, table)?;
     write_places(symbols, places);
     let start = start_of(symbols);
-    let listed = symbols.counts.nonterminals + symbols.counts.terminals;
+    let listed = symbols.ids.counts.nonterminals + symbols.ids.counts.terminals;
     Ok(Reading {
         records: started.records,
         places: listed as u16,
@@ -66,12 +67,13 @@ fn read_counted(
     table: &mut [u16],
     places: &mut [u16],
 ) -> Result<Reading, Refusal>
-    requires pieces_value { (l : Layout) → parse symbols.now.text.now ≡ some l → misnamed (source_in l.pieces) ≡ false }
-    ensures { (l : Layout) → parse symbols.now.text.now ≡ some l → record { answer = reply_of result; table = table.new; places = places.new } ≡ counted_of (source_in l.pieces) table.old places.old }
+    requires short { length symbols.now.ids.text.now ≤ text_limit }
+    requires pieces_value { (l : Layout) → parse symbols.now.ids.text.now ≡ some l → misnamed (source_in l.pieces) ≡ false }
+    ensures { (l : Layout) → parse symbols.now.ids.text.now ≡ some l → record { answer = reply_of result; table = table.new; places = places.new } ≡ counted_of (source_in l.pieces) table.old places.old }
 {
-    let counts = count(symbols.text);
-    let nonterminals = symbols.counts.nonterminals;
-    let terminals = symbols.counts.terminals;
+    let counts = count(symbols.ids.text);
+    let nonterminals = symbols.ids.counts.nonterminals;
+    let terminals = symbols.ids.counts.terminals;
     check_counts(nonterminals, terminals, counts, table, places)?;
     write_read(symbols, table, places)
 }
@@ -82,7 +84,8 @@ fn read_named(
     table: &mut [u16],
     places: &mut [u16],
 ) -> Result<Reading, Refusal>
-    ensures { (l : Layout) → parse symbols.now.text.now ≡ some l → record { answer = reply_of result; table = table.new; places = places.new } ≡ named_of (source_in l.pieces) table.old places.old }
+    requires { length symbols.now.ids.text.now ≤ text_limit }
+    ensures { (l : Layout) → parse symbols.now.ids.text.now ≡ some l → record { answer = reply_of result; table = table.new; places = places.new } ≡ named_of (source_in l.pieces) table.old places.old }
 {
     if is_misnamed(symbols) {
         return Err(Refusal::Misnamed);
@@ -119,7 +122,7 @@ impl Room {
     fn enter<'a>(&'a mut self, text: &'a [u8]) -> SymbolTable<'a>
         requires fresh { IsFresh self.old }
         requires text { (length text.now ≤ text_limit) × (is_grammar_text text.now ≡ true) }
-        ensures { result.text.now ≡ text.now }
+        ensures { result.ids.text.now ≡ text.now }
     {
         // Taken apart first: a slice of a field of `self` in the literal (`&mut self.starts`) has no generated proof.
         let Room {

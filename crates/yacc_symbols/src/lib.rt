@@ -10,16 +10,16 @@ ghost use Rattle.yacc_enter.specs.Table.{Holds};
 ghost use Rattle.yacc_symbols.specs.Symbols.{IsSymbol};
 
 use repr::{NonterminalString, Symbol};
-use yacc_enter::SymbolTable;
+use yacc_enter::IdTable;
 use yacc_lex::Lexeme;
 
 // The symbol of an id.
-pub fn symbol(symbols: &SymbolTable, lexeme: Lexeme) -> Symbol
-    requires { lexeme.past ≤ length symbols.now.text.now }
-    ensures { is_id lexeme.word ≡ true → (S : Source) → Holds symbols.now S.nonterminals S.terminals → IsSymbol S (id_at symbols.now.text.now lexeme.word lexeme.from lexeme.past) result }
+pub fn symbol(ids: &IdTable, lexeme: Lexeme) -> Symbol
+    requires { lexeme.past ≤ length ids.now.text.now }
+    ensures { is_id lexeme.word ≡ true → (S : Source) → Holds ids.now S.nonterminals S.terminals → IsSymbol S (id_at ids.now.text.now lexeme.word lexeme.from lexeme.past) result }
 {
-    match symbols.left(lexeme) {
+    match ids.left(lexeme) {
         Some(number) => Symbol::Nonterminal(NonterminalString(number)),
-        None => Symbol::Terminal(symbols.token(lexeme).unwrap_or(0)),
+        None => Symbol::Terminal(ids.token(lexeme).unwrap_or(0)),
     }
 }

@@ -6,7 +6,7 @@ use Rattle.yacc_places.proofs.write_places.Goals as goal
 pub loop-token-init : goal.loop-token-init
 loop-token-init c =
     let n = c.new-token-items.ensures in
-    rw (c.into_iter-token-iterator.ensures.into_iter_gives, n.mode, n.at) (n.text, λ l p. placing-first c.args.symbols.now.text.now l p _ _)
+    rw (c.into_iter-token-iterator.ensures.into_iter_gives, n.mode, n.at) (n.text, λ l p. placing-first c.args.symbols.now.ids.text.now l p _ _)
 
 pub left_said-left-requires : goal.left_said-left-requires
 left_said-left-requires c = (read_in _ c.loop-token.token-iterator c.loop-token.invariant.0 _ _ c.in-Some.ensures.steps).leads.inside
@@ -19,7 +19,7 @@ write_place-n-requires c =
     let L = (read_in _ c.loop-token.token-iterator c.loop-token.invariant.0 _ _ c.in-Some.ensures.steps).leads in
     let w = L.wide in
     let i = L.inside in
-    let s = c.args.symbols.now.short in
+    let s = c.requires.short in
     omega (arith, w, i, s)
 
 pub write_place-m-requires : goal.write_place-m-requires
@@ -27,7 +27,7 @@ write_place-m-requires c =
     let L = (read_in _ c.loop-token.token-iterator c.loop-token.invariant.0 _ _ c.in-Some.ensures.steps).leads in
     let w = L.wide in
     let i = L.inside in
-    let s = c.args.symbols.now.short in
+    let s = c.requires.short in
     omega (arith, w, i, s)
 
 pub loop-token-preserved : goal.loop-token-preserved
@@ -42,7 +42,7 @@ loop-token-preserved c =
           let H = c.args.symbols.now.named.held l p in
           let a = H.nonterminals.numbers.count in
           let b = H.terminals.numbers.count in
-          let r = c.requires in
+          let r = c.requires.room in
           rw R.at (placing-next _ _ _ _ _ _ _ _ _ (i.1 l p) (omega (arith, a, same.lefts, parts.front_len)) (omega (arith, a, b, r, same.tokens, parts.back_len)) _ _ _ _ _ R.leads e R.mode _ _ (c.left_said-left.ensures _ _ H) (c.token_said-right.ensures _ _ H) _ _ _ _ c.write_place-n.ensures.places_after c.write_place-n.ensures.value c.write_place-m.ensures.places_after c.write_place-m.ensures.value),
     )
 
@@ -55,5 +55,5 @@ returns c =
     let H = c.args.symbols.now.named.held l p in
     let a = H.nonterminals.numbers.count in
     let b = H.terminals.numbers.count in
-    let r = c.requires in
+    let r = c.requires.room in
     placing-last _ _ _ _ _ _ _ _ _ (i.1 l p) (ends_in _ _ i.0 _ c.in-None.ensures.steps) (omega (arith, a, same.lefts, parts.front_len)) same.tokens (omega (arith, a, b, r, parts.back_len)) _ (parts.back ∙ ap (λ (k : ℕ). drop k c.args.places.now) a)

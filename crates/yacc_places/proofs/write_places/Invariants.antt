@@ -8,4 +8,4 @@ use Rattle.yacc_places.proofs.Laws.{Placing}
 use Rattle.yacc_places.proofs.write_places.Given as goal
 
 abbrev pub invariant-loop-token : goal.invariant-loop-token
-invariant-loop-token live = (live.token-iterator.text.now ≡ live.symbols.text.now) × ((l : Layout) → parse live.symbols.text.now ≡ some l → Placing live.symbols.text.now (source_in l.pieces) live.initial.tokens live.lefts live.tokens live.n live.m (mode_of live.token-iterator.mode) live.token-iterator.at)
+invariant-loop-token live = (live.token-iterator.text.now ≡ live.symbols.ids.text.now) × ((l : Layout) → parse live.symbols.ids.text.now ≡ some l → Placing live.symbols.ids.text.now (source_in l.pieces) live.initial.tokens live.lefts live.tokens live.n live.m (mode_of live.token-iterator.mode) live.token-iterator.at)

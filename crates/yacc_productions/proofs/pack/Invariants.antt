@@ -10,4 +10,4 @@ use Rattle.yacc_productions.specs.Turn.{Small, Turn}
 use Rattle.yacc_productions.proofs.pack.Given as goal
 
 abbrev pub invariant-loop-token : goal.invariant-loop-token
-invariant-loop-token live = (live.token-iterator.text.now ≡ live.symbols.text.now) × (length live.grammar ≡ grammar_room) × Small live.body × ((l : Layout) → parse live.symbols.text.now ≡ some l → Turn (source_in l.pieces) live.symbols.text.now live.grammar live.body (mode_of live.token-iterator.mode) live.token-iterator.at)
+invariant-loop-token live = (live.token-iterator.text.now ≡ live.symbols.ids.text.now) × (length live.grammar ≡ grammar_room) × Small live.body × ((l : Layout) → parse live.symbols.ids.text.now ≡ some l → Turn (source_in l.pieces) live.symbols.ids.text.now live.grammar live.body (mode_of live.token-iterator.mode) live.token-iterator.at)

@@ -3,7 +3,7 @@ use mathlib.Core.Path.{◌≡◌, sym, ap, ◌∙◌}
 use Rattle.std.proofs.Common.{rules, None}
 use Rattle.yacc_names.specs.Names.{held}
 use Rattle.yacc_enter.proofs.Lookup.{found_low, left_none, left_some, left_other}
-use Rattle.yacc_enter.proofs.SymbolTable.left.Goals as goal
+use Rattle.yacc_enter.proofs.IdTable.left.Goals as goal
 
 pub returns-in_err-find-in-Name : goal.returns-in_err-find-in-Name
 returns-in_err-find-in-Name c =

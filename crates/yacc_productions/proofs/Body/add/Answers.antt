@@ -1,5 +1,6 @@
 use mathlib.Core.Path.{refl, ap, ◌∙◌}
 use Prim.Native.Nat.{ℕ}
+use lib.ListN.{length-set}
 use native.Mathlib.Omega.{arith}
 use Rattle.yacc_productions.proofs.Words.{kind_given, number_given}
 use Rattle.yacc_productions.proofs.Laws.{begun_is, span_small, added_is}
@@ -22,7 +23,7 @@ returns-then-self-ge-LIMIT c = (
 )
 
 pub bounds-grammar-at-2 : goal.bounds-grammar-at-2
-bounds-grammar-at-2 c = let h = c.if-self-ge-LIMIT.false in let k = c.if-self-ge-SYMBOLS.false in omega (arith, h, k)
+bounds-grammar-at-2 c = let l = c.requires.long in let h = c.if-self-ge-LIMIT.false in let k = c.if-self-ge-SYMBOLS.false in simp length-set (omega (arith, l, h, k))
 
 pub returns : goal.returns
 returns c = let B = c.requires.small in

@@ -8,7 +8,7 @@ returns-then-self-ge-LIMIT c = let t = c.if-self-ge-LIMIT.true in (c.requires.sm
 
 pub put-requires : goal.put-requires
 put-requires c = let B = c.requires.small in
-    let l = c.told-grammar in
+    let l = c.requires.long in
     let h = c.if-self-ge-LIMIT.false in
     let s = B.symbols in record { r_lt_record_limit = (omega (arith, h), omega (arith, h, l)); a_bound = (B.owner, (omega (arith, s), rw c.unwrap_or-start.ensures (span_small _ _ _ B.span c.requires.at_bound c.requires.at_bound))) }
 
