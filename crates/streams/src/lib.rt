@@ -56,7 +56,7 @@ fn say_failed<R: Eprint>(rt: &R, what: &str, error: io::Error) -> Failed {
 }
 
 // One read, at the front of the bytes; 0 at the end of the input.
-pub fn read_some<R: io::Input + Eprint>(rt: &R, bytes: &mut [u8]) -> Result<usize, Failed>
+fn read_some<R: io::Input + Eprint>(rt: &R, bytes: &mut [u8]) -> Result<usize, Failed>
     ensures { IfOk result (λ got. IsPrefixLen got bytes.new) }
 {
     rt.reader()
