@@ -127,7 +127,7 @@ fn pass_piece<R: io::Input + Print + Eprint>(rt: &R, bytes: &mut [u8]) -> Result
     Ok(input? == bytes.len())
 }
 
-// The rest, byte for byte; what fails ends it. A loop has to end, so it counts its pieces.
+// The rest, byte for byte. What fails is said already and ends it, and so there is no answer, here and at `write_table`. A loop has to end, so it counts its pieces.
 pub fn pass_on<R: io::Input + Print + Eprint>(rt: &R, bytes: &mut [u8]) {
     for _ in 0..PIECES {
         if !pass_piece(rt, bytes).unwrap_or(false) {

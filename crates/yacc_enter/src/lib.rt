@@ -49,7 +49,7 @@ pub fn byte(text: &[u8], at: usize) -> usize
     usize::from(text.get(at).copied().unwrap_or(0))
 }
 
-// The words that the ids of a text are entered in, as those of a `SymbolTable`: lists side by side, since there is no heap and they are lent.
+// The words that the ids of a text are entered in, as those of an `IdTable`: lists side by side, since there is no heap and they are lent.
 #[derive(Drop)]
 pub struct Words<'a> {
     pub starts: &'a mut [u16],
@@ -59,7 +59,7 @@ pub struct Words<'a> {
     pub tokens: &'a mut [u16],
 }
 
-// Ids of a text: names by their places with their index, and words for the numbers of those that are left sides, of the literals and of the names that are tokens.
+// Ids of a text, as far as they are entered: names by their places with their index, and words for the numbers of those that are left sides, of the literals and of the names that are tokens.
 #[derive(Drop)]
 pub struct IdTable<'a> {
     pub text: &'a [u8],
@@ -68,7 +68,7 @@ pub struct IdTable<'a> {
     pub ghost kept: { Kept text.now words.starts.now words.pasts.now words.ix.now words.lefts.now words.tokens.now counts } by { Kept-prop text.now words.starts.now words.pasts.now words.ix.now words.lefts.now words.tokens.now counts },
 }
 
-// All ids of a text of the grammar, entered and numbered.
+// The ids of a text of the grammar, all entered and numbered.
 #[derive(Drop)]
 pub struct SymbolTable<'a> {
     pub ids: IdTable<'a>,
