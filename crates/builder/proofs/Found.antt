@@ -34,7 +34,7 @@ use Rattle.std.specs.Borrow.{Bor}
 use Rattle.kept_states.specs.declared.Begins.{Begins}
 use Rattle.taking.specs.declared.Edges.{Edges}
 use Rattle.finding.specs.declared.Source.{Source}
-use Rattle.measuring.specs.declared.FoundStates.{FoundStates}
+use Rattle.builder.specs.declared.FoundStates.{FoundStates}
 use Rattle.searching.specs.Ready.{Ready}
 use Rattle.measuring.specs.Complete.{MeasuredAs}
 use Rattle.measuring.specs.declared.Measured.{Measured}
@@ -81,18 +81,18 @@ module _ {T : Table} {room : ℕ} {found : FoundStates} (s : Ended T room found)
   Rs = s.all.Rs
 
   abbrev ds : List (List Edge)
-  ds = rows_in found.edges.now.words found.edges.now.rows found.begins.now.states
+  ds = rows_in found.edges.now.words found.edges.now.rows found.kept.begins.now.states
 
   abbrev pub table_found : Table
-  table_found = built_table T s.all.Rs (rows_in found.edges.now.words found.edges.now.rows found.begins.now.states)
+  table_found = built_table T s.all.Rs (rows_in found.edges.now.words found.edges.now.rows found.kept.begins.now.states)
 
   long_rows : length ds ≡ length Rs
   unfolding rows_in
-  long_rows = length-map-below (row_in found.edges.now.words found.edges.now.rows) found.begins.now.states ∙ s.all.many
+  long_rows = length-map-below (row_in found.edges.now.words found.edges.now.rows) found.kept.begins.now.states ∙ s.all.many
 
-  row_at : (k : ℕ) → k < found.begins.now.states → get_or ds k [] ≡ row_in found.edges.now.words found.edges.now.rows k
+  row_at : (k : ℕ) → k < found.kept.begins.now.states → get_or ds k [] ≡ row_in found.edges.now.words found.edges.now.rows k
   unfolding rows_in
-  row_at k h = get_d_map-below (row_in found.edges.now.words found.edges.now.rows) found.begins.now.states k [] h
+  row_at k h = get_d_map-below (row_in found.edges.now.words found.edges.now.rows) found.kept.begins.now.states k [] h
 
   long_states : length table_found.states ≡ length Rs
   unfolding built_table
@@ -102,14 +102,14 @@ module _ {T : Table} {room : ℕ} {found : FoundStates} (s : Ended T room found)
   unfolding built_table built_state
   state_at_lem k h = get_d_map-below (built_state Rs ds) (length Rs) k no_state (rw (long_states) at h)
 
-  items_in : ItemsIn table_found found.words.now found.begins.now.items
+  items_in : ItemsIn table_found found.kept.words.now found.kept.begins.now.items
   items_in = record {
     begins = rw (items_are T Rs ds) (record {
       few = rw (length_mapped written Rs) s.all.holds.begun.few;
       front = s.all.holds.front;
       next = λ k h.
           let i : k < length Rs = rw (length_mapped written Rs) at h in
-          s.all.holds.counts k i ∙ ap (λ (m : ℕ). get_or found.begins.now.items k 0 + m) (sym (length-packed (get_or Rs k [])) ∙ sym (ap length (get_d_map written Rs k [] [] i)));
+          s.all.holds.counts k i ∙ ap (λ (m : ℕ). get_or found.kept.begins.now.items k 0 + m) (sym (length-packed (get_or Rs k [])) ∙ sym (ap length (get_d_map written Rs k [] [] i)));
     });
     room = s.all.holds.begun.room;
     is = λ k h. ap (map item_of) (s.all.holds.is k (rw long_states at h)) ∙ packed-written (get_or Rs k []) ∙ sym (ap (λ (q : State). q.items) (state_at_lem k h));
@@ -121,27 +121,27 @@ module _ {T : Table} {room : ℕ} {found : FoundStates} (s : Ended T room found)
       few = omega (arith, long_rows, s.all.holds.begun.few);
       front = s.all.front;
       next = λ k h.
-          let i : k < found.begins.now.states = omega (arith, long_rows, s.all.many) in
+          let i : k < found.kept.begins.now.states = omega (arith, long_rows, s.all.many) in
           let up = s.all.rises k i in
           let m : length (get_or ds k []) ≡ get_or found.edges.now.rows (k + 1) 0 - get_or found.edges.now.rows k 0 = ap length (row_at k i) ∙ length_row found.edges.now.words found.edges.now.rows k in
           omega (arith, up, m);
     });
-    is = λ k h. let i : k < found.begins.now.states = omega (arith, long_states, s.all.many) in sym (ap (λ (q : State). q.edges) (state_at_lem k h) ∙ row_at k i);
+    is = λ k h. let i : k < found.kept.begins.now.states = omega (arith, long_states, s.all.many) in sym (ap (λ (q : State). q.edges) (state_at_lem k h) ∙ row_at k i);
   }
 
-  items_from_lem : found.source.sizes.fixed + found.begins.now.states ≡ items_place table_found
+  items_from_lem : found.sizes.fixed + found.kept.begins.now.states ≡ items_place table_found
   unfolding items_place symbols_at productions_at states_at built_table
   items_from_lem =
       let a : length (map (built_state Rs ds) (below (length Rs))) ≡ length Rs = length-map-below (built_state Rs ds) (length Rs) in
       let y : size_of (symbol_lists T) ≡ sum (λ (p : Production). length p.symbols) T.productions = size-map (λ (p : Production). p.symbols) T.productions in
       rw (a, y) (omega (arith, s.counted.fixed_is, s.all.many))
 
-  edges_from_lem : found.source.sizes.fixed + found.begins.now.states + get_or found.begins.now.items found.begins.now.states 0 ≡ edges_at table_found
+  edges_from_lem : found.sizes.fixed + found.kept.begins.now.states + get_or found.kept.begins.now.items found.kept.begins.now.states 0 ≡ edges_at table_found
   unfolding edges_at
   edges_from_lem =
       let i : size_of (item_lists table_found) ≡ sum (λ (S : List ℕ). length (written S)) Rs = ap size_of (items_are T Rs ds) ∙ size-map written Rs in
-      let b : sum (λ (S : List ℕ). length (written S)) Rs ≡ get_or found.begins.now.items (length Rs) 0 = holds_counted T s.start found.words.now found.begins.now.items Rs s.all.holds in
-      let m : get_or found.begins.now.items found.begins.now.states 0 ≡ get_or found.begins.now.items (length Rs) 0 = ap (λ (i : ℕ). get_or found.begins.now.items i 0) s.all.many in
+      let b : sum (λ (S : List ℕ). length (written S)) Rs ≡ get_or found.kept.begins.now.items (length Rs) 0 = holds_counted T s.start found.kept.words.now found.kept.begins.now.items Rs s.all.holds in
+      let m : get_or found.kept.begins.now.items found.kept.begins.now.states 0 ≡ get_or found.kept.begins.now.items (length Rs) 0 = ap (λ (i : ℕ). get_or found.kept.begins.now.items i 0) s.all.many in
       omega (arith, items_from_lem, i, b, m)
 
   outcome_is : (words : ℕ) → outcome T s.start room words ≡ finish T room words (built Rs ds)
@@ -237,13 +237,15 @@ module _ {T : Table} {room : ℕ} (source : Source) (start : ℕ) (F : TableFits
     unfolding FoundAs
     all_found x = rw x at (w ready)
 
-  abbrev pub ended : (words : Bor (List ℕ)) (begins : Bor Begins) (edges : Bor Edges) → FoundAll T start (found_to T start room) words.now begins.now.items edges.now.words edges.now.rows begins.now.states
-      → Ended T room (record { source = source; words = words; begins = begins; edges = edges })
-  ended words begins edges all = record {
+  abbrev pub ended : (words : Bor (List ℕ)) (begins : Bor Begins) (edges : Bor Edges) {r : Result (Unit {0}) Halt}
+      → ((s : Ready source start) → FoundAs s.T start (found_to s.T start s.room) words.now begins.now.items edges.now.words edges.now.rows begins.now.states r) → {u : Unit {0}} → r ≡ Ok u
+      → Ended T room (record { kept = record { grammar = source.grammar; words = words; begins = begins }; sizes = source.sizes; terminals = source.sets.now.terminals; edges = edges })
+  ended words begins edges w x = record {
     start = start;
+    sets = source.sets.now.map;
     grammar = grammar;
     started = started;
     counted = z.counted;
     small = z.small;
-    all = all;
+    all = all_found words.now begins.now.items edges.now.words edges.now.rows begins.now.states w x;
   }

@@ -13,24 +13,24 @@ use Rattle.spelling.proofs.Grown.{grown-join, grown-all}
 use Rattle.spelling.proofs.Wrote.{front_is}
 use Rattle.grammar_records.specs.Target.{Target, PackedAs}
 use Rattle.state_records.specs.Rows.{BeginsOf, ItemsIn, EdgesIn}
-use Rattle.measuring.specs.declared.FoundStates.{FoundStates}
+use Rattle.builder.specs.declared.FoundStates.{FoundStates}
 use Rattle.builder.specs.Ended.{Laid}
 
 module _ {U : Table} {found : FoundStates} {out : List ℕ} (L : Laid U found out) where
   -- the numbers are exact
-  pub few_edges_at : found.source.sizes.fixed + found.begins.now.states + get_or found.begins.now.items found.begins.now.states 0 ≤ record_limit
+  pub few_edges_at : found.sizes.fixed + found.kept.begins.now.states + get_or found.kept.begins.now.items found.kept.begins.now.states 0 ≤ record_limit
   unfolding records_of
   few_edges_at = omega (arith, L.edges_at, L.target.room.few)
 
-  pub states-begin : 1 + found.source.sizes.nonterminals ≡ states_at U
+  pub states-begin : 1 + found.sizes.nonterminals ≡ states_at U
   unfolding states_at
   states-begin = omega (arith, L.target.nonterminals)
 
-  pub symbols-begin : 1 + found.source.sizes.nonterminals + found.begins.now.states + found.source.grammar.productions ≡ symbols_at U
+  pub symbols-begin : 1 + found.sizes.nonterminals + found.kept.begins.now.states + found.kept.grammar.productions ≡ symbols_at U
   unfolding symbols_at productions_at states_at
   symbols-begin = omega (arith, L.target.nonterminals, L.target.states, L.many)
 
-  pub few_symbols_at : 1 + found.source.sizes.nonterminals + found.begins.now.states + found.source.grammar.productions ≤ record_limit
+  pub few_symbols_at : 1 + found.sizes.nonterminals + found.kept.begins.now.states + found.kept.grammar.productions ≤ record_limit
   unfolding records_of edges_at items_place
   few_symbols_at = omega (arith, symbols-begin, L.target.room.few)
 
@@ -38,7 +38,7 @@ module _ {U : Table} {found : FoundStates} {out : List ℕ} (L : Laid U found ou
   pub room_on : (o : List ℕ) → length o ≡ length out → Room U o
   room_on o e = record { few = L.target.room.few; long = omega (arith, e, L.target.room.long) }
 
-  pub target_on : (o : List ℕ) → length o ≡ length out → Target U found.source.sizes.nonterminals found.source.sets.now.terminals found.begins.now.states o
+  pub target_on : (o : List ℕ) → length o ≡ length out → Target U found.sizes.nonterminals found.terminals found.kept.begins.now.states o
   target_on o e = record {
     nonterminals = L.target.nonterminals;
     terminals = L.target.terminals;
@@ -49,13 +49,13 @@ module _ {U : Table} {found : FoundStates} {out : List ℕ} (L : Laid U found ou
 
   -- what the six writers leave, one after the other
   pub all-written : (o₁ o₂ o₃ o₄ o₅ o₆ : List ℕ)
-      → ((W : Table) → Target W found.source.sizes.nonterminals found.source.sets.now.terminals found.begins.now.states out → PackedAs W found.source.grammar.words.now found.source.grammar.productions → Grown W out o₁ 0 (states_at W))
-      → ((W : Table) → found.begins.now.states ≡ length W.states → 1 + found.source.sizes.nonterminals ≡ states_at W → found.source.sizes.fixed + found.begins.now.states ≡ items_place W → found.source.sizes.fixed + found.begins.now.states + get_or found.begins.now.items found.begins.now.states 0 ≡ edges_at W → BeginsOf (item_lists W) found.begins.now.items → BeginsOf (edge_lists W) found.edges.now.rows → Room W o₁
+      → ((W : Table) → Target W found.sizes.nonterminals found.terminals found.kept.begins.now.states out → PackedAs W found.kept.grammar.words.now found.kept.grammar.productions → Grown W out o₁ 0 (states_at W))
+      → ((W : Table) → found.kept.begins.now.states ≡ length W.states → 1 + found.sizes.nonterminals ≡ states_at W → found.sizes.fixed + found.kept.begins.now.states ≡ items_place W → found.sizes.fixed + found.kept.begins.now.states + get_or found.kept.begins.now.items found.kept.begins.now.states 0 ≡ edges_at W → BeginsOf (item_lists W) found.kept.begins.now.items → BeginsOf (edge_lists W) found.edges.now.rows → Room W o₁
       → Grown W o₁ o₂ (states_at W) (productions_at W))
-      → ((W : Table) → Target W found.source.sizes.nonterminals found.source.sets.now.terminals found.begins.now.states o₂ → PackedAs W found.source.grammar.words.now found.source.grammar.productions → Grown W o₂ o₃ (productions_at W) (symbols_at W))
-      → ((W : Table) → PackedAs W found.source.grammar.words.now found.source.grammar.productions → 1 + found.source.sizes.nonterminals + found.begins.now.states + found.source.grammar.productions ≡ symbols_at W → Room W o₃ → Grown W o₃ o₄ (symbols_at W) (items_place W))
-      → ((W : Table) → found.begins.now.states ≡ length W.states → found.source.sizes.fixed + found.begins.now.states ≡ items_place W → ItemsIn W found.words.now found.begins.now.items → Room W o₄ → Grown W o₄ o₅ (items_place W) (edges_at W))
-      → ((W : Table) → found.begins.now.states ≡ length W.states → found.source.sizes.fixed + found.begins.now.states + get_or found.begins.now.items found.begins.now.states 0 ≡ edges_at W → EdgesIn W found.edges.now.words found.edges.now.rows → Room W o₅ → Grown W o₅ o₆ (edges_at W) (records_of W))
+      → ((W : Table) → Target W found.sizes.nonterminals found.terminals found.kept.begins.now.states o₂ → PackedAs W found.kept.grammar.words.now found.kept.grammar.productions → Grown W o₂ o₃ (productions_at W) (symbols_at W))
+      → ((W : Table) → PackedAs W found.kept.grammar.words.now found.kept.grammar.productions → 1 + found.sizes.nonterminals + found.kept.begins.now.states + found.kept.grammar.productions ≡ symbols_at W → Room W o₃ → Grown W o₃ o₄ (symbols_at W) (items_place W))
+      → ((W : Table) → found.kept.begins.now.states ≡ length W.states → found.sizes.fixed + found.kept.begins.now.states ≡ items_place W → ItemsIn W found.kept.words.now found.kept.begins.now.items → Room W o₄ → Grown W o₄ o₅ (items_place W) (edges_at W))
+      → ((W : Table) → found.kept.begins.now.states ≡ length W.states → found.sizes.fixed + found.kept.begins.now.states + get_or found.kept.begins.now.items found.kept.begins.now.states 0 ≡ edges_at W → EdgesIn W found.edges.now.words found.edges.now.rows → Room W o₅ → Grown W o₅ o₆ (edges_at W) (records_of W))
       → o₆ ≡ in_front (spell U) out
   all-written o₁ o₂ o₃ o₄ o₅ o₆ front states productions symbols items edges =
       let a : Grown U out o₁ 0 (states_at U) = front U L.target L.packed in

@@ -6,7 +6,7 @@ use Rattle.spelling.specs.Spelled.{items_place, edges_at}
 use Rattle.closing.specs.Grammar.{OfTable}
 use Rattle.finding.specs.Steps.{found_to}
 use Rattle.finding.specs.declared.Sizes.{Sizes}
-use Rattle.measuring.specs.declared.FoundStates.{FoundStates}
+use Rattle.builder.specs.declared.FoundStates.{FoundStates}
 use Rattle.starting.specs.Start.{Counted}
 use Rattle.collecting.specs.Rows.{FoundAll}
 use Rattle.measuring.specs.Complete.{Complete}
@@ -20,19 +20,22 @@ pub record SizesOf (T : Table) (room : ℕ) (sizes : Sizes) : Type 0 where
 
 pub record Ended (T : Table) (room : ℕ) (found : FoundStates) : Type 0 where
   pub start : ℕ
-  pub grammar : OfTable T found.source.grammar.words.now found.source.grammar.productions found.source.sets.now.terminals found.source.sets.now.map
-  pub started : start < found.source.grammar.productions
-  pub counted : Counted T room found.source.sizes.nonterminals found.source.sizes.fixed found.source.sizes.limit
-  pub small : found.source.sizes.fixed ≤ 65536
-  pub all : FoundAll T start (found_to T start room) found.words.now found.begins.now.items found.edges.now.words found.edges.now.rows found.begins.now.states
+  pub sets : List ℕ
+  pub grammar : OfTable T found.kept.grammar.words.now found.kept.grammar.productions found.terminals sets
+  pub started : start < found.kept.grammar.productions
+  pub counted : Counted T room found.sizes.nonterminals found.sizes.fixed found.sizes.limit
+  pub small : found.sizes.fixed ≤ 65536
+  pub all : FoundAll T start (found_to T start room) found.kept.words.now found.kept.begins.now.items found.edges.now.words found.edges.now.rows found.kept.begins.now.states
 
 -- as `measure` takes it
 module _ {T : Table} {room : ℕ} {found : FoundStates} (s : Ended T room found) where
-  abbrev pub complete : Complete found
+  abbrev pub complete : Complete found.kept found.sizes found.edges.now.rows
   complete = record {
     T = T;
     start = s.start;
     room = room;
+    terminals = found.terminals;
+    sets = s.sets;
     w = found_to T s.start room;
     E = found.edges.now.words;
     grammar = s.grammar;
@@ -44,11 +47,11 @@ module _ {T : Table} {room : ℕ} {found : FoundStates} (s : Ended T room found)
 
 -- U has the packed productions and the states that the words hold, and its regions begin where the numbers say
 pub record Laid (U : Table) (found : FoundStates) (out : List ℕ) : Type 0 where
-  pub target : Target U found.source.sizes.nonterminals found.source.sets.now.terminals found.begins.now.states out
-  pub few : found.begins.now.states ≤ state_limit
-  pub many : found.source.grammar.productions ≡ length U.productions
-  pub packed : PackedAs U found.source.grammar.words.now found.source.grammar.productions
-  pub items : ItemsIn U found.words.now found.begins.now.items
+  pub target : Target U found.sizes.nonterminals found.terminals found.kept.begins.now.states out
+  pub few : found.kept.begins.now.states ≤ state_limit
+  pub many : found.kept.grammar.productions ≡ length U.productions
+  pub packed : PackedAs U found.kept.grammar.words.now found.kept.grammar.productions
+  pub items : ItemsIn U found.kept.words.now found.kept.begins.now.items
   pub edges : EdgesIn U found.edges.now.words found.edges.now.rows
-  pub items_at : found.source.sizes.fixed + found.begins.now.states ≡ items_place U
-  pub edges_at : found.source.sizes.fixed + found.begins.now.states + get_or found.begins.now.items found.begins.now.states 0 ≡ edges_at U
+  pub items_at : found.sizes.fixed + found.kept.begins.now.states ≡ items_place U
+  pub edges_at : found.sizes.fixed + found.kept.begins.now.states + get_or found.kept.begins.now.items found.kept.begins.now.states 0 ≡ edges_at U

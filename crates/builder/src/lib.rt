@@ -19,12 +19,12 @@ use finding::{Sizes, Source};
 use first::FirstSets;
 use grammar_records::{count_symbols, write_front, write_productions, write_symbols};
 use kept_states::Begins;
-use measuring::{FoundStates, measure};
+use measuring::{KeptStates, measure};
 use repr::{Grammar, ProductionIndex, Refusal};
 use searching::search_states;
 use slices::zero;
 use state_records::{write_edges, write_items, write_states};
-use stored::Kernel;
+use stored::StoredItem;
 use table::{AcceptedTable, Counts, RECORDS};
 use taking::Edges;
 
@@ -38,6 +38,15 @@ pub struct Built {
 impl Built {
     // The words of scratch that are asked for, and left zero.
     pub const SCRATCH: usize = 64000;
+}
+
+// The states found with their edges, and what of the search the table is written of.
+#[derive(Clone, Copy)]
+struct FoundStates<'a> {
+    kept: KeptStates<'a>,
+    sizes: Sizes,
+    terminals: u16,
+    edges: &'a Edges,
 }
 
 // Whether the table is a grammar alone: one state, without items and edges.
@@ -59,25 +68,25 @@ fn write_table(found: FoundStates, out: &mut [u16])
     requires { (U : Table) × Laid U found out.old }
     ensures { (U : Table) → Laid U found.entry out.old → out.new ≡ in_front (spell U) out.old }
 {
-    let source = found.source;
-    let grammar = source.grammar;
-    let sizes = source.sizes;
-    let begins = found.begins;
+    let kept = found.kept;
+    let grammar = kept.grammar;
+    let sizes = found.sizes;
+    let begins = kept.begins;
     let edges = found.edges;
     let states = begins.states;
     let counts = Counts {
         nonterminals: sizes.nonterminals,
-        terminals: source.sets.terminals as usize,
+        terminals: found.terminals as usize,
         states,
         productions: grammar.productions,
     };
     let items = sizes.fixed + states;
     let ends = items + begins.items[states];
     write_front(grammar, counts, out);
-    write_states(begins, edges, counts.states_at(), items, ends, out);
+    write_states(begins, &edges.rows, counts.states_at(), items, ends, out);
     write_productions(grammar, counts, out);
     write_symbols(grammar, counts.loose_at(), out);
-    write_items(found.words, begins, items, out);
+    write_items(kept.words, begins, items, out);
     write_edges(edges, states, ends, out);
 }
 
@@ -86,9 +95,9 @@ fn write_found(found: FoundStates, out: &mut [u16], conflicts: &mut [u16]) -> Re
     requires { (T : Table) × Ended T (length out.old / 4) found }
     ensures { (T : Table) (s : Ended T (length out.old / 4) found.entry) (S : List ℕ) → record { answer = reply_of result; scratch = zeroed build_scratch S; out = out.new; conflicts = conflicts.new } ≡ built_of T S out.old conflicts.old (outcome T s.start (length out.old / 4) (length conflicts.old)) }
 {
-    let measured = measure(found, conflicts.len())?;
+    let measured = measure(found.kept, found.sizes, &found.edges.rows, conflicts.len())?;
     write_table(found, out);
-    write_conflicts(found, conflicts);
+    write_conflicts(found.kept, conflicts);
     Ok(Built {
         records: measured.records as u16,
         conflicts: measured.conflicts as u32,
@@ -124,19 +133,25 @@ fn build_found(
     let mut packed = [0u16; ProductionIndex::ALL_WORDS];
     let grammar = table.read_grammar(&mut packed);
     let sets = FirstSets::new(grammar, table.counts().terminals as u16);
+    let sizes = sizes_of(table, grammar, out.len() / 4);
     let source = Source {
         grammar,
         sets: &sets,
-        sizes: sizes_of(table, grammar, out.len() / 4),
+        sizes,
     };
     let mut begins = Begins::new();
-    let mut kernel = Kernel::new();
+    let mut kernel = [0u16; StoredItem::KERNEL_WORDS];
     let mut edges = Edges::new();
     search_states(source, start, words, &mut begins, &mut kernel, &mut edges)?;
-    let found = FoundStates {
-        source,
+    let kept = KeptStates {
+        grammar,
         words,
         begins: &begins,
+    };
+    let found = FoundStates {
+        kept,
+        sizes,
+        terminals: sets.terminals,
         edges: &edges,
     };
     write_found(found, out, conflicts)

@@ -10,7 +10,6 @@ ghost use Rattle.collecting.specs.Rows.{FoundAs};
 
 use finding::{Halt, Source};
 use kept_states::Begins;
-use stored::Kernel;
 use taking::{Edges, take_state};
 
 // The states behind those found, and the edges of all.
@@ -18,11 +17,11 @@ pub fn find_states(
     source: Source,
     words: &mut [u16],
     begins: &mut Begins,
-    kernel: &mut Kernel,
+    kernel: &mut [u16],
     edges: &mut Edges,
 ) -> Result<(), Halt>
     requires search { Search source words.old begins.old.items begins.old.states }
-    requires front { get_or edges.old.rows 0 0 ≡ 0 }
+    requires front { (item_limit * 5 ≤ length kernel.old) × (get_or edges.old.rows 0 0 ≡ 0) }
     ensures { (s : Search source.entry words.old begins.old.items begins.old.states) → FoundAs s.T s.start (collect_to 129 s.T s.room s.Rs []) words.new begins.new.items edges.new.words edges.new.rows begins.new.states result }
 {
     edges.many = 0;

@@ -33,7 +33,7 @@ fn reduction(grammar: Grammar, state: &[u64; Item::LIMIT], production: usize) ->
 }
 
 // Of all.
-fn reductions(grammar: Grammar, state: &[u64; Item::LIMIT]) -> [u64; ProductionIndex::LIMIT]
+pub fn reductions(grammar: Grammar, state: &[u64; Item::LIMIT]) -> [u64; ProductionIndex::LIMIT]
     ensures { (length result ≡ production_limit) × ((T : Table) (terminals : ℕ) (sets : List ℕ) → OfTable T grammar.entry.words.now grammar.entry.productions terminals sets → ReducedAs T grammar.entry.productions state.now result grammar.entry.productions) }
 {
     let mut map = [0u64; ProductionIndex::LIMIT];
@@ -59,7 +59,7 @@ fn shift_one(grammar: Grammar, place: usize, tokens: TokenSet, set: TokenSet) ->
 }
 
 // The terminals that the state shifts.
-fn shift_set(grammar: Grammar, state: &[u64; Item::LIMIT]) -> TokenSet
+pub fn shift_set(grammar: Grammar, state: &[u64; Item::LIMIT]) -> TokenSet
     requires flat { Flat state.now }
     ensures { (T : Table) (terminals : ℕ) (sets : List ℕ) → OfTable T grammar.entry.words.now grammar.entry.productions terminals sets → Shifted T (take (index_limit * grammar.entry.productions) state.now) result.0 }
 {
@@ -101,7 +101,7 @@ impl Actions {
 
     // The tokens that both productions reduce with.
     pub fn common(&self, production: usize, other: usize) -> TokenSet
-        requires { (production < self.now.productions) × (other < self.now.productions) }
+        requires { (production < production_limit) × (other < production_limit) }
         ensures { result.0 ≡ meet (slice_index self.now.reductions production) (slice_index self.now.reductions other) }
     {
         TokenSet(self.reductions[production]).intersection(TokenSet(self.reductions[other]))
@@ -109,7 +109,7 @@ impl Actions {
 
     // The tokens of a production that are shifted too.
     pub fn shifts_of(&self, production: usize) -> TokenSet
-        requires { production < self.now.productions }
+        requires { production < production_limit }
         ensures { result.0 ≡ meet (slice_index self.now.reductions production) self.now.shifts.0 }
     {
         TokenSet(self.reductions[production]).intersection(self.shifts)

@@ -10,24 +10,24 @@ ghost use Rattle.measuring.specs.Complete.{Collection};
 ghost use Rattle.conflict_list.specs.Listed.{state_words};
 
 use conflict_words::write_state;
-use measuring::FoundStates;
+use measuring::KeptStates;
 
 // Those of state k from a place on; the place behind them.
-fn write_at(found: FoundStates, k: usize, list: &mut [u16], at: usize) -> usize
-    requires k_in_bounds { (s : Collection found) × (at + length (state_words s.T s.Rs k) ≤ length list.old) }
-    requires k_lt_states { k < found.begins.now.states }
-    ensures { (s : Collection found.entry) → (list.new ≡ put_at at (state_words s.T s.Rs k) list.old) × (result ≡ at + length (state_words s.T s.Rs k)) }
+fn write_at(kept: KeptStates, k: usize, list: &mut [u16], at: usize) -> usize
+    requires k_in_bounds { (s : Collection kept) × (at + length (state_words s.T s.Rs k) ≤ length list.old) }
+    requires k_lt_states { k < kept.begins.now.states }
+    ensures { (s : Collection kept.entry) → (list.new ≡ put_at at (state_words s.T s.Rs k) list.old) × (result ≡ at + length (state_words s.T s.Rs k)) }
 {
-    write_state(found.source.grammar, &found.state(k), k, list, at)
+    write_state(kept.grammar, &kept.state(k), k, list, at)
 }
 
 // All, at the front of the list.
-pub fn write_conflicts(found: FoundStates, list: &mut [u16])
-    requires { (s : Collection found) × (length (conflict_words s.T s.Rs) ≤ length list.old) }
-    ensures { (s : Collection found.entry) → length (conflict_words s.T s.Rs) ≤ length list.old → list.new ≡ in_front (conflict_words s.T s.Rs) list.old }
+pub fn write_conflicts(kept: KeptStates, list: &mut [u16])
+    requires { (s : Collection kept) × (length (conflict_words s.T s.Rs) ≤ length list.old) }
+    ensures { (s : Collection kept.entry) → length (conflict_words s.T s.Rs) ≤ length list.old → list.new ≡ in_front (conflict_words s.T s.Rs) list.old }
 {
     let mut place = 0;
-    for k in 0..found.begins.states {
-        place = write_at(found, k, list, place);
+    for k in 0..kept.begins.states {
+        place = write_at(kept, k, list, place);
     }
 }

@@ -1,5 +1,5 @@
 -- One state more, in words: what `store` and `goto_over` come to. Assumes nothing.
-use Rattle.std.proofs.Common.{◌≡◌, ℕ, zero, suc, ◌+◌, ◌-◌, ◌*◌, ◌<◌, ◌≤◌, min, true, false, Option, Some, None, Result, Ok, Err, eqb, ltb, List, [], ◌∷◌, ◌++◌, length, get_or, take, set, sym, refl, ap, ◌∙◌, arith, le-ltb, lt-ltb, ne_eqb, eqb-true}
+use Rattle.std.proofs.Common.{◌≡◌, ℕ, zero, suc, ◌+◌, ◌-◌, ◌*◌, ◌/◌, ◌<◌, ◌≤◌, min, true, false, Option, Some, None, Result, Ok, Err, eqb, ltb, List, [], ◌∷◌, ◌++◌, length, get_or, take, set, sym, refl, ap, ◌∙◌, arith, length-take-le, le-ltb, lt-ltb, ne_eqb, eqb-true}
 use lib.ListN.{get_or-append}
 use lib.Seq.{take-length}
 use borrow.Author.Tests.{eqb-false}
@@ -14,7 +14,7 @@ use Rattle.build.proofs.Collection.{length_snoc, place_le}
 use Rattle.build.proofs.Refusals.{stops_128, stops-other}
 use Rattle.build.proofs.Goto.{length_moved, moved_sized}
 use Rattle.stored.specs.Stored.{entry_at, entries, held, packed, moved_over}
-use Rattle.stored.proofs.Stored.{length-entries}
+use Rattle.stored.proofs.Stored.{length-entries, entries_front}
 use Rattle.stored.proofs.Packed.{held_none, held-some, packed-moved}
 use Rattle.kept_states.specs.Kept.{put_all, state_in, states_in, Begun, kernel_place}
 use Rattle.kept_states.specs.Made.{Made, next, Holds}
@@ -26,7 +26,7 @@ use Rattle.finding.specs.declared.Halt.{Halt}
 use Rattle.finding.specs.declared.Halt.TheVariants.{States, Records}
 use Rattle.finding.specs.declared.Source.{Source}
 use Rattle.finding.proofs.Steps.{to_old, to_full, to_new, goto-none, goto-some}
-use Rattle.finding.proofs.Laws.{entry_places}
+use Rattle.finding.proofs.Laws.{packed_short, entry_places}
 
 -- what a step comes to
 
@@ -125,19 +125,6 @@ module _ (source : Source) (ws bs : List ℕ) (n : ℕ) (s : Search source ws bs
 
 -- how many items a state has
 
-held_short : (M : List ℕ) (x n : ℕ) → length (held M (up_from x n)) ≤ n
-unfolding up_from keep
-held_short M x zero = omega arith
-held_short M x (suc n) =
-    let more = held_short M (suc x) n in
-    cases (eqb (get_or M x 0) 0)
-    (λ t. rw (held_none M x (up_from (suc x) n) (eqb-true (get_or M x 0) 0 t)) (omega arith))
-    (λ t. rw (held-some M x (up_from (suc x) n) (eqb-false (get_or M x 0) 0 t)) (omega arith))
-
-packed_short : (M : List ℕ) → length (packed M) ≤ length M
-unfolding packed below
-packed_short M = held_short M 0 (length M)
-
 held-zero : (M : List ℕ) (x n : ℕ) → ((i : ℕ) → i < x + n → get_or M i 0 ≡ 0) → length (held M (up_from x n)) ≡ 0
 unfolding up_from keep
 held-zero M x zero f = refl
@@ -207,17 +194,28 @@ module _ (source : Source) (ws bs : List ℕ) (n : ℕ) (s : Search source ws bs
   pub over-places : (m : ℕ) → get_or bs k 0 ≤ m → m < get_or bs (k + 1) 0 → (entry_at ws m).place < index_limit * source.grammar.productions
   over-places m u v = let w = entry_places ws (get_or s.Rs k []) (get_or bs k 0) (get_or bs (k + 1) 0 - get_or bs k 0) state_is m u (omega arith) in omega (arith, size, many_places)
 
-  module _ (X : Symbol) (F : IsOneOf source.sizes.nonterminals source.sets.now.terminals X) (ks : List ℕ) (many : ℕ) (is : entries ks 0 many ≡ moved_over source.grammar.words.now X (entries ws (get_or bs k 0) (get_or bs (k + 1) 0 - get_or bs k 0))) where
+  -- what is moved stands at the front of the kernel's words
+  module _ (X : Symbol) (F : IsOneOf source.sizes.nonterminals source.sets.now.terminals X) (ks : List ℕ) (room : item_limit * 5 ≤ length ks) (many : ℕ) (low : many ≤ get_or bs (k + 1) 0 - get_or bs k 0)
+      (is : entries ks 0 many ≡ moved_over source.grammar.words.now X (entries ws (get_or bs k 0) (get_or bs (k + 1) 0 - get_or bs k 0))) where
     abbrev M : List ℕ
     M = moved s.T X (get_or s.Rs k [])
 
-    over_is : entries ks 0 many ≡ packed M
+    abbrev front : List ℕ
+    front = take (many * 5) ks
+
+    pub over-room_front : many * 5 ≤ length ks
+    over-room_front = omega (arith, over-room)
+
+    pub over-front : many * 5 ≡ length front
+    over-front = sym (length-take-le (many * 5) ks over-room_front)
+
+    over_is : entries front 0 (length front / 5) ≡ packed M
     over_is =
-        is ∙ ap (moved_over source.grammar.words.now X) state_is
+        entries_front ks many over-room_front ∙ is ∙ ap (moved_over source.grammar.words.now X) state_is
         ∙ packed-moved s.T source.grammar.words.now source.grammar.productions source.sets.now.terminals source.sets.now.map s.grammar X (get_or s.Rs k []) size
 
     over_many : length (packed M) ≡ many
-    over_many = sym (ap length over_is) ∙ length-entries ks 0 many
+    over_many = let e = sym (ap length over_is) ∙ length-entries front 0 (length front / 5) in omega (arith, e, over-front)
 
     some : (many ≡ 0 → ⊥) → nothing? M ≡ false
     some z = cases (nothing? M) (λ t. absurd (z (sym over_many ∙ packed-nothing M t))) (λ t. t)
@@ -227,7 +225,7 @@ module _ (source : Source) (ws bs : List ℕ) (n : ℕ) (s : Search source ws bs
         comes_nowhere s.T s.start s.Rs (goto_to s.T s.room (get_or s.Rs k []) s.Rs X) ws bs n
         (goto-none s.T s.room (get_or s.Rs k []) s.Rs X (cases (nothing? M) (λ t. t) (λ t. absurd (omega (arith, packed_something M t, over_many))))) s.many s.holds
 
-    pub over_kernel : KernelIn ks many source.grammar.productions
+    pub over_kernel : KernelIn front (length front / 5) source.grammar.productions
     over_kernel = record {
       kernel = M;
       long = length_moved s.T X (get_or s.Rs k []) ∙ sym many_places;
@@ -235,7 +233,7 @@ module _ (source : Source) (ws bs : List ℕ) (n : ℕ) (s : Search source ws bs
       is = over_is;
     }
 
-    module _ (z : many ≡ 0 → ⊥) (t : ℕ) (at : kernel_place (entries ks 0 many) (states_in ws bs n) ≡ t) where
+    module _ (z : many ≡ 0 → ⊥) (t : ℕ) (at : kernel_place (entries front 0 (length front / 5)) (states_in ws bs n) ≡ t) where
       target_is : t ≡ place (goto s.T X (get_or s.Rs k [])) s.Rs
       target_is =
           sym at ∙ rw (over_is, s.many, goto_is s.T X (get_or s.Rs k [])) (holds_place s.T s.start ws bs s.Rs s.holds s.grammar.fits s.started M
@@ -251,7 +249,7 @@ module _ (source : Source) (ws bs : List ℕ) (n : ℕ) (s : Search source ws bs
 
       -- with what `store` leaves
       pub over_new : t ≡ n → (ws' bs' : List ℕ) (m' : ℕ) (r : Result (Option ℕ) Halt)
-          → ((M : List ℕ) → length M ≡ index_limit * source.grammar.productions → entries ks 0 many ≡ packed M → Made s.T s.start (closure s.T M) → place (closure s.T M) s.Rs ≡ length s.Rs
+          → ((M : List ℕ) → length M ≡ index_limit * source.grammar.productions → entries front 0 (length front / 5) ≡ packed M → Made s.T s.start (closure s.T M) → place (closure s.T M) s.Rs ≡ length s.Rs
           → Reached s.T s.start s.Rs (add_to s.T s.room (closure s.T M) s.Rs) ws' bs' m' r)
           → Reached s.T s.start s.Rs (goto_to s.T s.room (get_or s.Rs k []) s.Rs X) ws' bs' m' r
       over_new u ws' bs' m' r stored =

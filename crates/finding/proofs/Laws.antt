@@ -13,6 +13,7 @@ use Rattle.build.proofs.Closure.{closure_sized}
 use Rattle.closing.specs.Grammar.{OfTable}
 use Rattle.closing.specs.Fed.{Flat}
 use Rattle.stored.specs.Stored.{Entry, no_entry, entry_at, entries, held, packed}
+use Rattle.stored.proofs.Stored.{length-entries}
 use Rattle.stored.proofs.Packed.{held_none, held-some}
 use Rattle.kept_states.specs.Kept.{unpacked, put_all}
 use Rattle.kept_states.proofs.Flat.{unpacked-packed}
@@ -70,6 +71,27 @@ entry_places ws R from n e m h l =
     let v : get_or (map (entry_at ws) (up_from from n)) (m - from) no_entry ≡ entry_at ws m = get_d_map (entry_at ws) (up_from from n) (m - from) 0 no_entry u ∙ ap (entry_at ws) (get_d_up_from from n (m - from) 0 (omega arith) ∙ q) in
     let z : (entry_at ws m).place ≡ (get_or (held R (up_from 0 (length R))) (m - from) no_entry).place = ap (λ (e : Entry). e.place) (sym v ∙ ap (λ (l : List Entry). get_or l (m - from) no_entry) e) in
     omega arith
+
+-- how many items a kernel has
+
+held_short : (M : List ℕ) (x n : ℕ) → length (held M (up_from x n)) ≤ n
+unfolding up_from keep
+held_short M x zero = omega arith
+held_short M x (suc n) =
+    let more = held_short M (suc x) n in
+    cases (eqb (get_or M x 0) 0)
+    (λ t. rw (held_none M x (up_from (suc x) n) (eqb-true (get_or M x 0) 0 t)) (omega arith))
+    (λ t. rw (held-some M x (up_from (suc x) n) (eqb-false (get_or M x 0) 0 t)) (omega arith))
+
+pub packed_short : (M : List ℕ) → length (packed M) ≤ length M
+unfolding packed below
+packed_short M = held_short M 0 (length M)
+
+pub kernel_few : (ks : List ℕ) (many P : ℕ) → P ≤ 128 → KernelIn ks many P → many ≤ item_limit
+kernel_few ks many P few k =
+    let a = length-entries ks 0 many in
+    let b = ap length k.is in
+    omega (arith, a, b, packed_short k.kernel, k.long)
 
 -- `close`
 

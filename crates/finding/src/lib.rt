@@ -2,7 +2,7 @@
 
 #![tactic(auto)]
 
-ghost use Rattle.std.specs.Prelude.{◌≡◌, ℕ, suc, ◌+◌, ◌-◌, ◌*◌, ◌^◌, ◌<◌, ◌≤◌, true, false, List, [], MatchResult, length, take, slice_index, slice_index_or};
+ghost use Rattle.std.specs.Prelude.{◌≡◌, ℕ, suc, ◌+◌, ◌-◌, ◌*◌, ◌/◌, ◌^◌, ◌<◌, ◌≤◌, true, false, List, [], MatchResult, length, take, slice_index, slice_index_or};
 ghost use Rattle.repr.specs.Sizes.{index_limit, item_limit, record_limit, state_limit};
 ghost use Rattle.repr.specs.Meaning.{Table};
 ghost use Rattle.repr.specs.Symbols.{meant};
@@ -19,7 +19,7 @@ use first::FirstSets;
 use kept_states::{Begins, count_items, find, pack, unpack};
 use lr1_core::Item;
 use repr::{Grammar, ProductionIndex, Refusal, Symbol};
-use stored::{Kernel, move_over};
+use stored::{StoredItem, move_over};
 
 // What is known of the table while its states are found: records without states, items and edges, and how many there may be.
 #[derive(Clone, Copy)]
@@ -57,19 +57,17 @@ impl From<Halt> for Refusal {
 
 // Here and in the crates above that take states, what is given, the words, where states begin and the kernel stand beside each other. Tried as one struct: with the kernel in it a field would be lent to be changed
 // while another is lent, or 10,880 words copied at each goto; without it every step is proved, and the call in crate builder is not covered, where the grammar, its sets and the words are lent at lifetimes of their own.
-// One state more, stored behind the others if it has room.
+// One state more, by its items flat, stored behind the others if it has room; without it nothing changes.
 pub fn append(
-    state: &[u64; Item::LIMIT],
-    source: Source,
+    items: &[u64],
+    sizes: Sizes,
     words: &mut [u16],
     begins: &mut Begins,
 ) -> Result<(), Halt>
-    requires state_len { (length state.now ≡ item_limit) × (source.sizes.fixed ≤ 65536) × (source.sizes.limit ≤ record_limit) }
+    requires items_few { (length items.now ≤ item_limit) × (sizes.fixed ≤ 65536) × (sizes.limit ≤ record_limit) }
     requires record_limit_in_bounds { (record_limit * 5 ≤ length words.old) × (begins.old.states < state_limit) × (slice_index begins.old.items begins.old.states ≤ record_limit) }
-    ensures { let stored = Stored (source.entry.sizes.fixed + begins.old.states + 1) source.entry.sizes.limit (packed (take (index_limit * source.entry.grammar.productions) state.now)) words.old words.new begins.old.items begins.new.items begins.old.states in MatchResult result (λ u. stored true × (begins.new.states ≡ begins.old.states + 1)) (λ h. (h ≡ Halt.Records) × stored false) }
+    ensures { let stored = Stored (sizes.fixed + begins.old.states + 1) sizes.limit (packed items.now) words.old words.new begins.old.items begins.new.items begins.old.states in MatchResult result (λ u. stored true × (begins.new.states ≡ begins.old.states + 1)) (λ h. (h ≡ Halt.Records) × stored false × (words.new ≡ words.old) × (begins.new ≡ begins.old)) }
 {
-    let sizes = source.sizes;
-    let items = &state[..ProductionIndex::INDEXES * source.grammar.productions];
     let states = begins.states;
     let begin = begins.items[states];
     let past = begin + count_items(items);
@@ -82,12 +80,12 @@ pub fn append(
 }
 
 // A kernel closed.
-pub fn close(source: Source, kernel: &Kernel) -> [u64; Item::LIMIT]
+pub fn close(source: Source, kernel: &[u16]) -> [u64; Item::LIMIT]
     requires held { Held source.grammar.words.now source.grammar.productions source.sets.now.terminals source.sets.now.map }
-    requires kernel { KernelIn kernel.now.words kernel.now.many source.grammar.productions }
-    ensures { (length result ≡ item_limit) × ((T : Table) (M : List ℕ) → OfTable T source.entry.grammar.words.now source.entry.grammar.productions source.entry.sets.now.terminals source.entry.sets.now.map → length M ≡ index_limit * source.entry.grammar.productions → entries kernel.now.words 0 kernel.now.many ≡ packed M → take (index_limit * source.entry.grammar.productions) result ≡ closure T M) }
+    requires kernel { KernelIn kernel.now (length kernel.now / 5) source.grammar.productions }
+    ensures { (length result ≡ item_limit) × ((T : Table) (M : List ℕ) → OfTable T source.entry.grammar.words.now source.entry.grammar.productions source.entry.sets.now.terminals source.entry.sets.now.map → length M ≡ index_limit * source.entry.grammar.productions → entries kernel.now 0 (length kernel.now / 5) ≡ packed M → take (index_limit * source.entry.grammar.productions) result ≡ closure T M) }
 {
-    let mut state = unpack(&kernel.words, 0, kernel.many);
+    let mut state = unpack(kernel, 0, kernel.len() / StoredItem::WORDS);
     transitive_closure(source.grammar, source.sets, &mut state);
     state
 }
@@ -97,18 +95,19 @@ fn store(
     source: Source,
     words: &mut [u16],
     begins: &mut Begins,
-    kernel: &Kernel,
+    kernel: &[u16],
 ) -> Result<Option<usize>, Halt>
     requires search { Search source words.old begins.old.items begins.old.states }
-    requires kernel { KernelIn kernel.now.words kernel.now.many source.grammar.productions }
-    ensures { (s : Search source.entry words.old begins.old.items begins.old.states) (M : List ℕ) → length M ≡ index_limit * source.entry.grammar.productions → entries kernel.now.words 0 kernel.now.many ≡ packed M → Made s.T s.start (closure s.T M) → place (closure s.T M) s.Rs ≡ length s.Rs → Reached s.T s.start s.Rs (add_to s.T s.room (closure s.T M) s.Rs) words.new begins.new.items begins.new.states result }
+    requires kernel { KernelIn kernel.now (length kernel.now / 5) source.grammar.productions }
+    ensures { (s : Search source.entry words.old begins.old.items begins.old.states) (M : List ℕ) → length M ≡ index_limit * source.entry.grammar.productions → entries kernel.now 0 (length kernel.now / 5) ≡ packed M → Made s.T s.start (closure s.T M) → place (closure s.T M) s.Rs ≡ length s.Rs → Reached s.T s.start s.Rs (add_to s.T s.room (closure s.T M) s.Rs) words.new begins.new.items begins.new.states result }
 {
     let number = begins.states;
     if number == Begins::STATES {
         return Err(Halt::States);
     }
     let state = close(source, kernel);
-    append(&state, source, words, begins)?;
+    let items = &state[..ProductionIndex::INDEXES * source.grammar.productions];
+    append(items, source.sizes, words, begins)?;
     Ok(Some(number))
 }
 
@@ -119,19 +118,20 @@ pub fn goto_over(
     begins: &mut Begins,
     k: usize,
     symbol: Symbol,
-    kernel: &mut Kernel,
+    kernel: &mut [u16],
 ) -> Result<Option<usize>, Halt>
     requires search { Search source words.old begins.old.items begins.old.states }
-    requires k_lt_states { (k < begins.old.states) × IsOneOf source.sizes.nonterminals source.sets.now.terminals (meant symbol) }
-    ensures { (s : Search source.entry words.old begins.old.items begins.old.states) → Reached s.T s.start s.Rs (goto_to s.T s.room (slice_index_or s.Rs k []) s.Rs (meant symbol)) words.new begins.new.items begins.new.states result }
+    requires k_lt_states { (k < begins.old.states) × IsOneOf source.sizes.nonterminals source.sets.now.terminals (meant symbol) × (item_limit * 5 ≤ length kernel.old) }
+    ensures { (length kernel.new ≡ length kernel.old) × ((s : Search source.entry words.old begins.old.items begins.old.states) → Reached s.T s.start s.Rs (goto_to s.T s.room (slice_index_or s.Rs k []) s.Rs (meant symbol)) words.new begins.new.items begins.new.states result) }
 {
     let (begin, past) = begins.span(k);
-    move_over(source.grammar, words, begin, past, symbol, kernel);
-    if kernel.many == 0 {
+    let many = move_over(source.grammar, words, begin, past, symbol, kernel);
+    if many == 0 {
         return Ok(None);
     }
-    match find(words, begins, kernel) {
+    let moved = &kernel[..many * StoredItem::WORDS];
+    match find(words, begins, moved) {
         Some(target) => Ok(Some(target)),
-        None => store(source, words, begins, kernel),
+        None => store(source, words, begins, moved),
     }
 }

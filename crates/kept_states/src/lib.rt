@@ -2,14 +2,14 @@
 
 #![tactic(auto)]
 
-ghost use Rattle.std.specs.Prelude.{◌≡◌, ℕ, suc, ◌+◌, ◌-◌, ◌*◌, ◌^◌, ◌<◌, ◌≤◌, List, MatchOption, length, take, slice_index};
+ghost use Rattle.std.specs.Prelude.{◌≡◌, ℕ, suc, ◌+◌, ◌-◌, ◌*◌, ◌/◌, ◌^◌, ◌<◌, ◌≤◌, List, MatchOption, length, take, slice_index};
 ghost use Rattle.repr.specs.Sizes.{item_limit, record_limit, state_limit};
 ghost use Rattle.stored.specs.Stored.{entry_at, entries, put_entry, packed};
 ghost use Rattle.kept_states.specs.Kept.{unpacked, put_all, states_in, Begun, kernel_place};
 
 use lr1_core::Item;
 use repr::StateIndex;
-use stored::{Kernel, StoredItem, same_kernel, write_item};
+use stored::{StoredItem, same_kernel, write_item};
 
 // Where the items of the states found begin, and how many states there are: a place for each that a table may have and one behind them, since there is no heap.
 #[derive(Clone, Copy)]
@@ -85,9 +85,9 @@ pub fn count_items(state: &[u64]) -> usize
 }
 
 // The first state that has this kernel.
-pub fn find(words: &[u16], begins: &Begins, kernel: &Kernel) -> Option<usize>
+pub fn find(words: &[u16], begins: &Begins, kernel: &[u16]) -> Option<usize>
     requires { Begun words.now begins.now.items begins.now.states }
-    ensures { let k = kernel_place (entries kernel.now.words 0 kernel.now.many) (states_in words.now begins.now.items begins.now.states) in MatchOption result (k ≡ begins.now.states) (λ n. (n < begins.now.states) × (k ≡ n)) }
+    ensures { let k = kernel_place (entries kernel.now 0 (length kernel.now / 5)) (states_in words.now begins.now.items begins.now.states) in MatchOption result (k ≡ begins.now.states) (λ n. (n < begins.now.states) × (k ≡ n)) }
 {
     (0..begins.states).find(|&k| {
         let (from, past) = begins.span(k);

@@ -36,7 +36,7 @@ use Rattle.collecting.specs.Rows.{row_in, rows_in}
 use Rattle.std.proofs.Common.{Ok, Err}
 use Rattle.finding.specs.declared.Halt.TheVariants.{Records}
 use Rattle.finding.specs.declared.Sizes.{Sizes}
-use Rattle.measuring.specs.declared.FoundStates.{FoundStates}
+use Rattle.measuring.specs.declared.KeptStates.{KeptStates}
 use Rattle.measuring.specs.Complete.{Collection, Complete, MeasuredAs}
 
 -- a state flat again
@@ -49,15 +49,15 @@ padded M n f x =
     let q : length M + (x - length M) ≡ x = omega (arith, ltb-false x (length M) t) in
     rw (← q, get_or-append-add M (replicate n 0) (x - length M) 0, get_d_none n (x - length M)) (omega arith))
 
-module _ (found : FoundStates) (s : Collection found) (k : ℕ) (h : k < found.begins.now.states) where
+module _ (kept : KeptStates) (s : Collection kept) (k : ℕ) (h : k < kept.begins.now.states) where
   abbrev ws : List ℕ
-  ws = found.words.now
+  ws = kept.words.now
 
   abbrev bs : List ℕ
-  bs = found.begins.now.items
+  bs = kept.begins.now.items
 
   abbrev P : ℕ
-  P = found.source.grammar.productions
+  P = kept.grammar.productions
 
   inside : k < length s.Rs
   inside = omega (arith, s.many)
@@ -156,34 +156,28 @@ rows_sum E es (suc k) z f =
 
 -- records
 
-module _ (found : FoundStates) (s : Complete found) where
-  abbrev es : List ℕ
-  es = found.edges.now.rows
-
+module _ (kept : KeptStates) (sizes : Sizes) (es : List ℕ) (s : Complete kept sizes es) where
   abbrev n : ℕ
-  n = found.begins.now.states
+  n = kept.begins.now.states
 
-  abbrev sizes : Sizes
-  sizes = found.source.sizes
-
-  pub few_begins : get_or found.begins.now.items n 0 ≤ record_limit
+  pub few_begins : get_or kept.begins.now.items n 0 ≤ record_limit
   few_begins = by n s.all.many
     where
-      by : (m : ℕ) → m ≡ length s.all.Rs → get_or found.begins.now.items m 0 ≤ record_limit
+      by : (m : ℕ) → m ≡ length s.all.Rs → get_or kept.begins.now.items m 0 ≤ record_limit
       by zero q = rw s.all.holds.front (omega arith)
       by (suc m) q = rw (add-one m) at (s.all.holds.begun.ends m (omega arith))
 
   pub few_states : n ≤ 128
   few_states = omega (arith, s.all.many, s.all.holds.begun.few)
 
-  pub records_are : sizes.fixed + n + get_or found.begins.now.items n 0 + get_or es n 0 ≡ records s.T s.all.Rs + sum (λ (ds : List Edge). length ds) (rows_in s.E es n)
+  pub records_are : sizes.fixed + n + get_or kept.begins.now.items n 0 + get_or es n 0 ≡ records s.T s.all.Rs + sum (λ (ds : List Edge). length ds) (rows_in s.E es n)
   unfolding records
   records_are =
       let a = rows_sum s.E es n s.all.front s.all.rises in
-      let b = holds_counted s.T s.start found.words.now found.begins.now.items s.all.Rs s.all.holds in
+      let b = holds_counted s.T s.start kept.words.now kept.begins.now.items s.all.Rs s.all.holds in
       let c = s.counted.fixed_is in
       let d = s.all.many in
-      let e : get_or found.begins.now.items n 0 ≡ get_or found.begins.now.items (length s.all.Rs) 0 = ap (λ (i : ℕ). get_or found.begins.now.items i 0) s.all.many in
+      let e : get_or kept.begins.now.items n 0 ≡ get_or kept.begins.now.items (length s.all.Rs) 0 = ap (λ (i : ℕ). get_or kept.begins.now.items i 0) s.all.many in
       omega arith
 
   module _ (r : ℕ) (is : r ≡ records s.T s.all.Rs + sum (λ (ds : List Edge). length ds) (rows_in s.E es n)) (words : ℕ) where

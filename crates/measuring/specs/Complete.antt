@@ -10,36 +10,43 @@ use Rattle.starting.specs.Start.{Counted}
 use Rattle.collecting.specs.Rows.{FoundAll}
 use Rattle.measuring.specs.declared.Measured.{Measured}
 use Rattle.finding.specs.declared.Halt.{Halt}
-use Rattle.measuring.specs.declared.FoundStates.{FoundStates}
+use Rattle.finding.specs.declared.Sizes.{Sizes}
+use Rattle.measuring.specs.declared.KeptStates.{KeptStates}
 use Rattle.finding.specs.Search.{refusal_of}
 
 -- the states are those of some table
-pub record Collection (found : FoundStates) : Type 0 where
+pub record Collection (kept : KeptStates) : Type 0 where
   pub T : Table
   pub start : ℕ
+  pub terminals : ℕ
+  pub sets : List ℕ
   pub Rs : List (List ℕ)
-  pub grammar : OfTable T found.source.grammar.words.now found.source.grammar.productions found.source.sets.now.terminals found.source.sets.now.map
-  pub started : start < found.source.grammar.productions
-  pub holds : Holds T start found.words.now found.begins.now.items Rs
-  pub many : found.begins.now.states ≡ length Rs
+  pub grammar : OfTable T kept.grammar.words.now kept.grammar.productions terminals sets
+  pub started : start < kept.grammar.productions
+  pub holds : Holds T start kept.words.now kept.begins.now.items Rs
+  pub many : kept.begins.now.states ≡ length Rs
 
 -- with their edges, and the numbers of specs/Start of starting
-pub record Complete (found : FoundStates) : Type 0 where
+pub record Complete (kept : KeptStates) (sizes : Sizes) (es : List ℕ) : Type 0 where
   pub T : Table
   pub start : ℕ
   pub room : ℕ
+  pub terminals : ℕ
+  pub sets : List ℕ
   pub w : Found
   pub E : List ℕ
-  pub grammar : OfTable T found.source.grammar.words.now found.source.grammar.productions found.source.sets.now.terminals found.source.sets.now.map
-  pub started : start < found.source.grammar.productions
-  pub counted : Counted T room found.source.sizes.nonterminals found.source.sizes.fixed found.source.sizes.limit
-  pub small : found.source.sizes.fixed ≤ 65536
-  pub all : FoundAll T start w found.words.now found.begins.now.items E found.edges.now.rows found.begins.now.states
+  pub grammar : OfTable T kept.grammar.words.now kept.grammar.productions terminals sets
+  pub started : start < kept.grammar.productions
+  pub counted : Counted T room sizes.nonterminals sizes.fixed sizes.limit
+  pub small : sizes.fixed ≤ 65536
+  pub all : FoundAll T start w kept.words.now kept.begins.now.items E es kept.begins.now.states
 
-abbrev pub collection : (found : FoundStates) → Complete found → Collection found
-collection found s = record {
+abbrev pub collection : (kept : KeptStates) (sizes : Sizes) (es : List ℕ) → Complete kept sizes es → Collection kept
+collection kept sizes es s = record {
   T = s.T;
   start = s.start;
+  terminals = s.terminals;
+  sets = s.sets;
   Rs = s.all.Rs;
   grammar = s.grammar;
   started = s.started;

@@ -12,10 +12,10 @@ ghost use Rattle.collecting.specs.Rows.{rows_in};
 ghost use Rattle.measuring.specs.Complete.{Collection, Complete, MeasuredAs};
 
 use conflict_counts::{Actions, count_state};
-use finding::{Halt, Source};
+use finding::{Halt, Sizes};
 use kept_states::{Begins, unpack};
 use lr1_core::Item;
-use taking::Edges;
+use repr::Grammar;
 
 // How many records and conflicts there are, as they are counted. `Built` of crate builder has them as C does, and stands there so that what is above names no crate of the search.
 #[derive(Clone, Copy)]
@@ -24,22 +24,21 @@ pub struct Measured {
     pub conflicts: usize,
 }
 
-// The states found, in words, with their edges, and what they are of. That they are the states of a table's search (`Collection`, `Complete`) is asked at each call: it names the table, and a ghost field's fact has one proof.
+// The states found, in words, and the grammar that they are of. That they are the states of a table's search (`Collection`, `Complete`) is asked at each call: it names the table, and a ghost field's fact has one proof.
 #[derive(Clone, Copy)]
-pub struct FoundStates<'a> {
-    pub source: Source<'a>,
+pub struct KeptStates<'a> {
+    pub grammar: Grammar<'a>,
     pub words: &'a [u16],
     pub begins: &'a Begins,
-    pub edges: &'a Edges,
 }
 
-impl<'a> FoundStates<'a> {
+impl<'a> KeptStates<'a> {
     // State k, flat.
     pub fn state(self, k: usize) -> [u64; Item::LIMIT]
         requires collection { Collection self }
         requires k_lt_states { k < self.begins.now.states }
         ensures flat { Flat result }
-        ensures is { (s : Collection self.entry) → take (index_limit * self.entry.source.grammar.productions) result ≡ get_or s.Rs k [] }
+        ensures is { (s : Collection self.entry) → take (index_limit * self.entry.grammar.productions) result ≡ get_or s.Rs k [] }
     {
         let (from, past) = self.begins.span(k);
         unpack(self.words, from, past)
@@ -47,42 +46,46 @@ impl<'a> FoundStates<'a> {
 }
 
 // The conflicts of state k.
-fn count_at(found: FoundStates, k: usize) -> usize
-    requires collection { Collection found }
-    requires k_lt_states { k < found.begins.now.states }
-    ensures { (result ≤ 1056768) × ((s : Collection found.entry) → result ≡ length (clashes s.T (get_or s.Rs k []))) }
+fn count_at(kept: KeptStates, k: usize) -> usize
+    requires collection { Collection kept }
+    requires k_lt_states { k < kept.begins.now.states }
+    ensures { (result ≤ 1056768) × ((s : Collection kept.entry) → result ≡ length (clashes s.T (get_or s.Rs k []))) }
 {
-    count_state(found.source.grammar, &found.state(k))
+    count_state(kept.grammar, &kept.state(k))
 }
 
 // The conflicts of all.
-pub fn count_conflicts(found: FoundStates) -> usize
-    requires { Collection found }
-    ensures { (result ≤ 135266304) × ((s : Collection found.entry) → result ≡ sum (λ (S : List ℕ). length (clashes s.T S)) s.Rs) }
+pub fn count_conflicts(kept: KeptStates) -> usize
+    requires { Collection kept }
+    ensures { (result ≤ 135266304) × ((s : Collection kept.entry) → result ≡ sum (λ (S : List ℕ). length (clashes s.T S)) s.Rs) }
 {
-    (0..found.begins.states).map(|k| count_at(found, k)).sum()
+    (0..kept.begins.states).map(|k| count_at(kept, k)).sum()
 }
 
 // The records of the table, edges included.
-fn table_records(found: FoundStates) -> usize
-    requires { Complete found }
-    ensures { (s : Complete found.entry) → result ≡ records s.T s.all.Rs + sum (λ (es : List Edge). length es) (rows_in s.E found.entry.edges.now.rows found.entry.begins.now.states) }
+fn table_records(kept: KeptStates, sizes: Sizes, rows: &[usize; Begins::ROWS]) -> usize
+    requires { Complete kept sizes rows.now }
+    ensures { (s : Complete kept.entry sizes rows.now) → result ≡ records s.T s.all.Rs + sum (λ (es : List Edge). length es) (rows_in s.E rows.now kept.entry.begins.now.states) }
 {
-    let states = found.begins.states;
-    let source = found.source;
-    source.sizes.fixed + states + found.begins.items[states] + found.edges.rows[states]
+    let states = kept.begins.states;
+    sizes.fixed + states + kept.begins.items[states] + rows[states]
 }
 
-// Refusal 17 for the edges, then for the list of conflicts, which has room for so many words.
-pub fn measure(found: FoundStates, room: usize) -> Result<Measured, Halt>
-    requires { Complete found }
-    ensures { (s : Complete found.entry) → MeasuredAs s.T s.room room s.all.Rs (rows_in s.E found.entry.edges.now.rows found.entry.begins.now.states) result }
+// Refusal 17 for the edges, then for the list of conflicts, which has room for so many words. Of the edges, only where each state's begin.
+pub fn measure(
+    kept: KeptStates,
+    sizes: Sizes,
+    rows: &[usize; Begins::ROWS],
+    room: usize,
+) -> Result<Measured, Halt>
+    requires { Complete kept sizes rows.now }
+    ensures { (s : Complete kept.entry sizes rows.now) → MeasuredAs s.T s.room room s.all.Rs (rows_in s.E rows.now kept.entry.begins.now.states) result }
 {
-    let records = table_records(found);
-    if found.source.sizes.limit < records {
+    let records = table_records(kept, sizes, rows);
+    if sizes.limit < records {
         return Err(Halt::Records);
     }
-    let conflicts = count_conflicts(found);
+    let conflicts = count_conflicts(kept);
     if room < Actions::CONFLICT_WORDS * conflicts {
         return Err(Halt::Records);
     }

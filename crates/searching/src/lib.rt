@@ -12,7 +12,6 @@ use collecting::find_states;
 use finding::{Halt, Source};
 use kept_states::Begins;
 use starting::first_state;
-use stored::Kernel;
 use taking::Edges;
 
 // All states and their edges.
@@ -21,13 +20,13 @@ pub fn search_states(
     start: usize,
     words: &mut [u16],
     begins: &mut Begins,
-    kernel: &mut Kernel,
+    kernel: &mut [u16],
     edges: &mut Edges,
 ) -> Result<(), Halt>
     requires ready { Ready source start }
-    requires front { (record_limit * 5 ≤ length words.old) × (get_or begins.old.items 0 0 ≡ 0) × (get_or edges.old.rows 0 0 ≡ 0) }
+    requires front { (item_limit * 5 ≤ length kernel.old) × (record_limit * 5 ≤ length words.old) × (get_or begins.old.items 0 0 ≡ 0) × (get_or edges.old.rows 0 0 ≡ 0) }
     ensures { (s : Ready source.entry start) → FoundAs s.T start (found_to s.T start s.room) words.new begins.new.items edges.new.words edges.new.rows begins.new.states result }
 {
-    first_state(source, start, words, begins, kernel)?;
+    first_state(source, start, words, begins)?;
     find_states(source, words, begins, kernel, edges)
 }

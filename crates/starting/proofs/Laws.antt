@@ -5,7 +5,7 @@ use Rattle.std.proofs.Common.{Result, Ok, Err, MatchResult}
 use Rattle.finding.specs.declared.Halt.{Halt}
 use Rattle.finding.specs.declared.Halt.TheVariants.{Records}
 use mathlib.Core.List.{List, [], ◌∷◌}
-use Prim.Native.Nat.{ℕ, zero, suc, ◌+◌, ◌*◌, ◌^◌, ◌≤◌, ◌<◌, min}
+use Prim.Native.Nat.{ℕ, zero, suc, ◌+◌, ◌*◌, ◌/◌, ◌^◌, ◌≤◌, ◌<◌, min}
 use native.Mathlib.Omega.{arith}
 use lib.Dec.{eqb, ltb}
 use lib.ListN.{length, get_or, set, take, replicate, length-set, length-replicate}
@@ -23,8 +23,8 @@ use Rattle.build.specs.States.{places, closure, start_state}
 use Rattle.build.specs.Outcome.{sum, records, stops_at}
 use Rattle.build.proofs.Refusals.{stops-other}
 use Rattle.closing.specs.Grammar.{OfTable}
-use Rattle.stored.specs.Stored.{Entry, entries, put_entry, held, packed}
-use Rattle.stored.proofs.Stored.{entries-put}
+use Rattle.stored.specs.Stored.{Entry, entries, entry_words, held, packed}
+use Rattle.stored.proofs.Stored.{entries-one}
 use Rattle.stored.proofs.Packed.{held_none, held-some}
 use Rattle.kept_states.specs.Made.{first, Holds}
 use Rattle.kept_states.proofs.Holds.{holds_more, length-packed}
@@ -79,15 +79,15 @@ unfolding single
 single-some e q = power_some e q
 
 -- its kernel in words
-module _ (ks ks' : List ℕ) (P start e s x : ℕ) (room : 5 ≤ length ks) (few : e ≤ 63) (h : start < P) (es : s ≡ with 0 e) (ex : x ≡ start * index_limit + 0) (put : ks' ≡ put_entry ks 0 x s) where
-  words_are : entries ks' 0 1 ≡ packed (set (replicate (index_limit * P) 0) (index_limit * start) (single e))
-  unfolding entries up_from
+module _ (ks : List ℕ) (P start e s x : ℕ) (few : e ≤ 63) (h : start < P) (es : s ≡ with 0 e) (ex : x ≡ start * index_limit + 0) (is : ks ≡ entry_words x s) where
+  words_are : entries ks 0 (length ks / 5) ≡ packed (set (replicate (index_limit * P) 0) (index_limit * start) (single e))
+  unfolding entry_words
   words_are =
       let q : x ≡ index_limit * start = omega arith in
       let v = end_is e s few es in
-      rw (put, q, v) (entries-put ks 0 (index_limit * start) (single e) room ∙ sym (packed_one (index_limit * P) (index_limit * start) (single e) (omega arith) (single-some e)))
+      rw (is, q, v) (entries-one (index_limit * start) (single e) ∙ sym (packed_one (index_limit * P) (index_limit * start) (single e) (omega arith) (single-some e)))
 
-  pub start_kernel : KernelIn ks' 1 P
+  pub start_kernel : KernelIn ks (length ks / 5) P
   start_kernel = record {
     kernel = set (replicate (index_limit * P) 0) (index_limit * start) (single e);
     long = one_long (index_limit * P) (index_limit * start) (single e) (omega arith) (single-some e);
@@ -99,7 +99,7 @@ module _ (ks ks' : List ℕ) (P start e s x : ℕ) (room : 5 ≤ length ks) (few
 
   -- closed
   pub start-closed : (T : Table) (g sets S : List ℕ) → OfTable T g P e sets
-      → ((T : Table) (M : List ℕ) → OfTable T g P e sets → length M ≡ index_limit * P → entries ks' 0 1 ≡ packed M → take (index_limit * P) S ≡ closure T M) → take (index_limit * P) S ≡ start_state T start
+      → ((T : Table) (M : List ℕ) → OfTable T g P e sets → length M ≡ index_limit * P → entries ks 0 (length ks / 5) ≡ packed M → take (index_limit * P) S ≡ closure T M) → take (index_limit * P) S ≡ start_state T start
   unfolding start_state
   start-closed T g sets S G f =
       let a : index_limit * P ≡ places T = ap (λ (i : ℕ). index_limit * i) G.many in
@@ -135,8 +135,8 @@ module _ (T : Table) (start room N f l P : ℕ) (c : Counted T room N f l) (ws w
   }
 
 -- by what `append` says
-pub start_told : {X : Type 0} (T : Table) (start room N f l P : ℕ) → Counted T room N f l → (ws ws' bs bs' S : List ℕ) → Holds T start ws bs [] → take (index_limit * P) S ≡ start_state T start → get_or bs 0 0 ≡ 0 → (n n' : ℕ) → n ≡ 0 → (r : Result X Halt)
-    → MatchResult r (λ x. Stored (f + n + 1) l (packed (take (index_limit * P) S)) ws ws' bs bs' n true × (n' ≡ n + 1)) (λ h. (h ≡ Records) × Stored (f + n + 1) l (packed (take (index_limit * P) S)) ws ws' bs bs' n false)
+pub start_told : {X : Type 0} (V W : Type 0) (T : Table) (start room N f l P : ℕ) → Counted T room N f l → (ws ws' bs bs' S : List ℕ) → Holds T start ws bs [] → take (index_limit * P) S ≡ start_state T start → get_or bs 0 0 ≡ 0 → (n n' : ℕ) → n ≡ 0 → (r : Result X Halt)
+    → MatchResult r (λ x. Stored (f + n + 1) l (packed (take (index_limit * P) S)) ws ws' bs bs' n true × (n' ≡ n + 1)) (λ h. (h ≡ Records) × Stored (f + n + 1) l (packed (take (index_limit * P) S)) ws ws' bs bs' n false × V × W)
     → MatchResult r (λ x. Started T start room ws' bs' true × (n' ≡ 1)) (λ h. (h ≡ Records) × Started T start room ws' bs' false)
-start_told T start room N f l P c ws ws' bs bs' S H is z n n' e (Ok x) k = (start_stored T start room N f l P c ws ws' bs bs' S H is z true (rw e at k.0), omega (arith, k.1, e))
-start_told T start room N f l P c ws ws' bs bs' S H is z n n' e (Err h) k = (k.0, start_stored T start room N f l P c ws ws' bs bs' S H is z false (rw e at k.1))
+start_told V W T start room N f l P c ws ws' bs bs' S H is z n n' e (Ok x) k = (start_stored T start room N f l P c ws ws' bs bs' S H is z true (rw e at k.0), omega (arith, k.1, e))
+start_told V W T start room N f l P c ws ws' bs bs' S H is z n n' e (Err h) k = (k.0, start_stored T start room N f l P c ws ws' bs bs' S H is z false (rw e at k.1))

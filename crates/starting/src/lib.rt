@@ -12,7 +12,8 @@ use finding::{Halt, Source, append, close};
 use kept_states::Begins;
 use lookahead::TokenSet;
 use lr1_core::Item;
-use stored::{Kernel, StoredItem};
+use repr::ProductionIndex;
+use stored::StoredItem;
 
 // Stored if it has room.
 pub fn first_state(
@@ -20,7 +21,6 @@ pub fn first_state(
     start: usize,
     words: &mut [u16],
     begins: &mut Begins,
-    kernel: &mut Kernel,
 ) -> Result<(), Halt>
     requires held { Held source.grammar.words.now source.grammar.productions source.sets.now.terminals source.sets.now.map }
     requires start_lt_productions { (start < source.grammar.productions) × (source.sizes.fixed ≤ 65536) × (source.sizes.limit ≤ record_limit) × (record_limit * 5 ≤ length words.old) × (get_or begins.old.items 0 0 ≡ 0) }
@@ -34,9 +34,8 @@ pub fn first_state(
         place: first.place(),
         set: TokenSet::eof(source.sets.terminals).0,
     };
-    kernel.many = 0;
-    kernel.push(item);
     begins.states = 0;
-    let state = close(source, kernel);
-    append(&state, source, words, begins)
+    let state = close(source, &item.words());
+    let items = &state[..ProductionIndex::INDEXES * source.grammar.productions];
+    append(items, source.sizes, words, begins)
 }

@@ -21,20 +21,20 @@ use taking::{Edges, FoundEdge};
 // The states, from record `at` on: their items begin at record `items`, their edges at record `ends`. That the words are room for the table U, and where its regions begin in it, is asked here and below: it chooses the table, and a ghost field's fact has one proof (crate measuring).
 pub fn write_states(
     begins: &Begins,
-    edges: &Edges,
+    rows: &[usize; Begins::ROWS],
     at: usize,
     items: usize,
     ends: usize,
     out: &mut [u16],
 )
-    requires { (U : Table) × ((begins.now.states ≡ length U.states) × ((at ≡ states_at U) × ((items ≡ items_place U) × ((ends ≡ edges_at U) × (BeginsOf (item_lists U) begins.now.items × (BeginsOf (edge_lists U) edges.now.rows × Room U out.old)))))) }
-    ensures { (U : Table) → begins.now.states ≡ length U.states → at ≡ states_at U → items ≡ items_place U → ends ≡ edges_at U → BeginsOf (item_lists U) begins.now.items → BeginsOf (edge_lists U) edges.now.rows → Room U out.old → Grown U out.old out.new (states_at U) (productions_at U) }
+    requires { (U : Table) × ((begins.now.states ≡ length U.states) × ((at ≡ states_at U) × ((items ≡ items_place U) × ((ends ≡ edges_at U) × (BeginsOf (item_lists U) begins.now.items × (BeginsOf (edge_lists U) rows.now × Room U out.old)))))) }
+    ensures { (U : Table) → begins.now.states ≡ length U.states → at ≡ states_at U → items ≡ items_place U → ends ≡ edges_at U → BeginsOf (item_lists U) begins.now.items → BeginsOf (edge_lists U) rows.now → Room U out.old → Grown U out.old out.new (states_at U) (productions_at U) }
 {
     for s in 0..begins.states {
         let (item, item_past) = begins.span(s);
-        let (edge, edge_past) = edges.span(s);
+        let edge = rows[s];
         let item_head = head_of(item_past - item, items + item);
-        let edge_head = head_of(edge_past - edge, ends + edge);
+        let edge_head = head_of(rows[s + 1] - edge, ends + edge);
         put(out, at + s, item_head, edge_head, 0, 0);
     }
 }

@@ -1,5 +1,5 @@
 -- Comparing kernels as the library's `eq` does: two lists, place by place. Assumes nothing.
-use Rattle.std.proofs.Common.{◌≡◌, ℕ, ◌-◌, ◌*◌, ◌%◌, ◌≤◌, Bool, true, false, not, ◌&&◌, eqb, Option, Some, None, List, [], ◌∷◌, map, length, take, sym, ap, ◌∙◌, arith, eqb-true}
+use Rattle.std.proofs.Common.{◌≡◌, ℕ, ◌%◌, Bool, true, false, not, ◌&&◌, eqb, Option, Some, None, List, [], ◌∷◌, map, length, sym, ap, ◌∙◌, arith, eqb-true}
 use borrow.Author.Tests.{eqb-false}
 use Rattle.std.specs.Iterator.{Yields, AlwaysYields, ComparesItemsByEq}
 use Rattle.std.specs.Option.{MatchOption, IfSome}
@@ -11,10 +11,10 @@ use Rattle.std.specs.declared.slice.ChunksExact.{ChunksExact}
 use Rattle.std.specs.Slice.Iter.{chunks_exact_rest, chunks_exact_size, chunks_exact_steps}
 use Rattle.repr.specs.Sizes.{index_limit}
 use Rattle.repr.proofs.Lists.{cases}
-use Rattle.stored.specs.Stored.{Entry, entry_at, entries, same_entry, is_same_kernel}
+use Rattle.stored.specs.Stored.{Entry, entry_at, same_entry, is_same_kernel}
 use Rattle.stored.specs.declared.StoredItem.{StoredItem}
 use Rattle.stored.specs.contracts.StoredItemPartialEq.TheImpl.{eq-value}
-use Rattle.stored.proofs.Stored.{all_entries, all_part, all_none, all-more, kernel_pass, kernel_short, kernel_both, kernel_nil, kernel_long}
+use Rattle.stored.proofs.Stored.{all_entries, all_none, all-more, kernel_pass, kernel_short, kernel_both, kernel_nil, kernel_long}
 
 unfoldable pub same_list : {A : Type 0} → (A → A → Bool) → List A → List A → Bool
 same_list eq [] [] = true
@@ -69,10 +69,6 @@ pub chunks : {s : ChunksExact ℕ} → chunks_exact_size s ≡ 5 → YieldsList 
 chunks {s} h = YieldsList-from_shown_while chunks_exact_steps (λ w. entry_at w.now 0) (λ t. all_entries (chunks_exact_rest t)) (λ t. chunks_exact_size t ≡ 5)
     (λ t u e k. ap length (all_none (chunks_exact_rest t) (omega (arith, k.1.0, e))))
     (λ t x u e k. (k.0 ∙ e, ap all_entries k.1.0 ∙ all-more x.now (chunks_exact_rest u) (k.1.1 ∙ e))) s h
-
--- those in front of some words
-pub all_front : (ws : List ℕ) (n : ℕ) → n * 5 ≤ length ws → all_entries (take (n * 5) ws) ≡ entries ws 0 n
-all_front ws n h = let z : n * 5 - 0 * 5 ≡ n * 5 = omega arith in let y : n - 0 ≡ n = omega arith in rw (z, y) at (all_part ws 0 n (omega arith) h)
 
 abbrev pub item_of : Entry → StoredItem
 item_of e = record { place = e.place; set = e.set }

@@ -132,6 +132,11 @@ entries_same ws vs m (suc n) f =
     let here = f m (omega arith) (omega arith) in
     cc
 
+-- the words of one item
+pub entries-one : (x s : ℕ) → entries (entry_words x s) 0 1 ≡ record { place = x; set = s } ∷ []
+unfolding entries up_from entry_at set_at entry_words
+entries-one x s = rw (four_words s) refl
+
 map_snoc : (f : ℕ → Entry) (xs : List ℕ) (x : ℕ) → map f (xs ++ x ∷ []) ≡ map f xs ++ f x ∷ []
 map_snoc f [] x = refl
 map_snoc f (y ∷ xs) x = ap (λ (l : List Entry). f y ∷ l) (map_snoc f xs x)
@@ -199,6 +204,11 @@ all_part ws from past h l =
     rw z (entries_alike ws (take (past * 5 - from * 5) (drop (from * 5) ws)) 0 from (past - from) (λ i u. entry_alike ws (take (past * 5 - from * 5) (drop (from * 5) ws)) (0 + i) (from + i) (λ j v.
     let a : from * 5 + ((0 + i) * 5 + j) ≡ (from + i) * 5 + j = omega arith in
     get_or-take (past * 5 - from * 5) (drop (from * 5) ws) ((0 + i) * 5 + j) 0 (omega arith) ∙ get_or-drop (from * 5) ws ((0 + i) * 5 + j) 0 ∙ ap (λ (y : ℕ). get_or ws y 0) a)))
+
+-- those in front of some words
+pub entries_front : (ws : List ℕ) (n : ℕ) → n * 5 ≤ length ws → entries (take (n * 5) ws) 0 (length (take (n * 5) ws) / 5) ≡ entries ws 0 n
+unfolding all_entries
+entries_front ws n h = let z : n * 5 - 0 * 5 ≡ n * 5 = omega arith in let y : n - 0 ≡ n = omega arith in rw (z, y) at (all_part ws 0 n (omega arith) h)
 
 -- moving over a symbol
 

@@ -2,8 +2,8 @@
 
 #![tactic(auto)]
 
-ghost use Rattle.std.specs.Prelude.{◌≡◌, ℕ, ◌+◌, ◌-◌, ◌*◌, ◌^◌, ◌<◌, ◌≤◌, List, length};
-ghost use Rattle.repr.specs.Sizes.{index_limit, item_limit, record_limit};
+ghost use Rattle.std.specs.Prelude.{◌≡◌, ℕ, ◌+◌, ◌-◌, ◌*◌, ◌/◌, ◌^◌, ◌<◌, ◌≤◌, List, length};
+ghost use Rattle.repr.specs.Sizes.{index_limit, record_limit};
 ghost use Rattle.repr.specs.Symbols.{meant};
 ghost use Rattle.repr.specs.Packed.{Packed};
 ghost use Rattle.stored.specs.Stored.{entry_at, entries, entry_words, put_entry, moved_over, is_same_kernel, Appended};
@@ -21,6 +21,9 @@ pub struct StoredItem {
 impl StoredItem {
     // Words of one: its place, then its tokens in four, the lowest first.
     pub const WORDS: usize = 5;
+
+    // Words of a kernel of all items: room for any.
+    pub const KERNEL_WORDS: usize = Item::LIMIT * StoredItem::WORDS;
 
     // What a word can hold.
     const BASE: u64 = 65536;
@@ -75,82 +78,61 @@ pub fn write_item(words: &mut [u16], at: usize, item: StoredItem)
     words[base..base + StoredItem::WORDS].copy_from_slice(&item.words());
 }
 
-// A kernel's items, and how many they are: room for all, since there is no heap.
-#[derive(Clone, Copy)]
-pub struct Kernel {
-    pub words: [u16; Kernel::WORDS],
-    pub many: usize,
-    pub ghost room: { (many ≤ item_limit) × (length words ≡ item_limit * 5) },
-}
-
-impl Kernel {
-    // Words of all items.
-    pub const WORDS: usize = Item::LIMIT * StoredItem::WORDS;
-
-    // Without items.
-    pub fn new() -> Kernel
-        ensures { result.many ≡ 0 }
-    {
-        Kernel {
-            words: [0; Kernel::WORDS],
-            many: 0,
-        }
-    }
-
-    // One item behind the others.
-    pub fn push(&mut self, item: StoredItem)
-        requires { (self.old.many < item_limit) × (item.place < 65536) }
-        ensures { (self.new.words ≡ put_entry self.old.words self.old.many item.place item.set) × (self.new.many ≡ self.old.many + 1) }
-    {
-        write_item(&mut self.words, self.many, item);
-        self.many += 1;
-    }
-}
-
-// One item, moved over the symbol and put behind the kernel's, if its cursor stands there.
-fn move_one(grammar: Grammar, read: StoredItem, symbol: Symbol, kernel: &mut Kernel)
+// One item, moved over the symbol and put behind the first `many` of the kernel, if its cursor stands there; how many the kernel has then.
+fn move_one(
+    grammar: Grammar,
+    read: StoredItem,
+    symbol: Symbol,
+    kernel: &mut [u16],
+    many: usize,
+) -> usize
     requires within { (read.place < index_limit * grammar.productions) × (read.set < 2 ^ 64) }
-    requires many_lt_item_limit { kernel.old.many < item_limit }
-    ensures { Appended grammar.entry.words.now (meant symbol) read.place read.set kernel.old.words kernel.new.words kernel.old.many kernel.new.many }
+    requires room { (many < record_limit) × (many * 5 + 5 ≤ length kernel.old) }
+    ensures { Appended grammar.entry.words.now (meant symbol) read.place read.set kernel.old kernel.new many result }
 {
     if Item::at(read.place).cursor(grammar) == Some(symbol) {
-        kernel.push(StoredItem {
+        let next = StoredItem {
             place: read.place + 1,
             set: read.set,
-        });
+        };
+        write_item(kernel, many, next);
+        many + 1
+    } else {
+        many
     }
 }
 
-// The items number `from` up to `past` that have their cursor at the symbol, moved over it, as the kernel. Here and in kept_states by number and not as a slice of their words: what is known of the states found speaks of items by number.
+// The items number `from` up to `past` that have their cursor at the symbol, moved over it, at the front of the kernel's words; how many they are. Here and in kept_states by number and not as a slice of their words: what is known of the states found speaks of items by number.
 pub fn move_over(
     grammar: Grammar,
     words: &[u16],
     from: usize,
     past: usize,
     symbol: Symbol,
-    kernel: &mut Kernel,
-)
-    requires from_le_past { (from ≤ past) × (past ≤ record_limit) × (past * 5 ≤ length words.now) × (past - from ≤ item_limit) }
+    kernel: &mut [u16],
+) -> usize
+    requires from_le_past { (from ≤ past) × (past ≤ record_limit) × (past * 5 ≤ length words.now) × ((past - from) * 5 ≤ length kernel.old) }
     requires by_index { (m : ℕ) → from ≤ m → m < past → (entry_at words.now m).place < index_limit * grammar.productions }
-    ensures { (kernel.new.many ≤ past - from) × (entries kernel.new.words 0 kernel.new.many ≡ moved_over grammar.entry.words.now (meant symbol) (entries words.now from (past - from))) }
+    ensures { (result ≤ past - from) × (length kernel.new ≡ length kernel.old) × (entries kernel.new 0 result ≡ moved_over grammar.entry.words.now (meant symbol) (entries words.now from (past - from))) }
 {
-    kernel.many = 0;
+    let mut many = 0;
     let items = &words[from * StoredItem::WORDS..past * StoredItem::WORDS];
     for item in items.chunks_exact(StoredItem::WORDS) {
-        move_one(grammar, StoredItem::of(item), symbol, kernel);
+        many = move_one(grammar, StoredItem::of(item), symbol, kernel, many);
     }
+    many
 }
 
-// Whether the items number `from` up to `past` have exactly these past index 0.
-pub fn same_kernel(words: &[u16], from: usize, past: usize, kernel: &Kernel) -> bool
+// Whether the items number `from` up to `past` have exactly these past index 0: a kernel is the items of its words.
+pub fn same_kernel(words: &[u16], from: usize, past: usize, kernel: &[u16]) -> bool
     requires { (from ≤ past) × (past ≤ record_limit) × (past * 5 ≤ length words.now) }
-    ensures { result ≡ is_same_kernel (entries words.now from (past - from)) (entries kernel.now.words 0 kernel.now.many) }
+    ensures { result ≡ is_same_kernel (entries words.now from (past - from)) (entries kernel.now 0 (length kernel.now / 5)) }
 {
     let items = &words[from * StoredItem::WORDS..past * StoredItem::WORDS];
     let kept = items
         .chunks_exact(StoredItem::WORDS)
         .map(|item| StoredItem::of(item))
         .filter(|item| Item::at(item.place).index != 0);
-    let wanted = kernel.words[..kernel.many * StoredItem::WORDS].chunks_exact(StoredItem::WORDS);
+    let wanted = kernel.chunks_exact(StoredItem::WORDS);
     kept.eq(wanted.map(|item| StoredItem::of(item)))
 }

@@ -14,7 +14,6 @@ ghost use Rattle.taking.specs.Taking.{edge_of, Tried, TakenAs};
 use finding::{Halt, Source, goto_over};
 use kept_states::Begins;
 use repr::{NonterminalString, Symbol};
-use stored::Kernel;
 
 // An edge found: the symbol that it is over, and the state that it leads to.
 #[derive(Clone, Copy)]
@@ -106,12 +105,12 @@ fn take_one(
     begins: &mut Begins,
     k: usize,
     symbol: Symbol,
-    kernel: &mut Kernel,
+    kernel: &mut [u16],
     edges: &mut Edges,
 ) -> Result<(), Halt>
     requires search { Search source words.old begins.old.items begins.old.states }
-    requires k_lt_states { (k < begins.old.states) × IsOneOf source.sizes.nonterminals source.sets.now.terminals (meant symbol) × (edges.old.many < 12160) }
-    ensures { (edges.new.rows ≡ edges.old.rows) × ((s : Search source.entry words.old begins.old.items begins.old.states) → Tried s.T s.start s.Rs (goto_to s.T s.room (get_or s.Rs k []) s.Rs (meant symbol)) (symbol_code (meant symbol)) words.new begins.new.items edges.old.words edges.new.words edges.old.many begins.new.states edges.new.many result) }
+    requires k_lt_states { (k < begins.old.states) × IsOneOf source.sizes.nonterminals source.sets.now.terminals (meant symbol) × (item_limit * 5 ≤ length kernel.old) × (edges.old.many < 12160) }
+    ensures { (length kernel.new ≡ length kernel.old) × (edges.new.rows ≡ edges.old.rows) × ((s : Search source.entry words.old begins.old.items begins.old.states) → Tried s.T s.start s.Rs (goto_to s.T s.room (get_or s.Rs k []) s.Rs (meant symbol)) (symbol_code (meant symbol)) words.new begins.new.items edges.old.words edges.new.words edges.old.many begins.new.states edges.new.many result) }
 {
     if let Some(target) = goto_over(source, words, begins, k, symbol, kernel)? {
         edges.push(FoundEdge { symbol, target });
@@ -125,12 +124,12 @@ pub fn take_state(
     words: &mut [u16],
     begins: &mut Begins,
     k: usize,
-    kernel: &mut Kernel,
+    kernel: &mut [u16],
     edges: &mut Edges,
 ) -> Result<(), Halt>
     requires search { Search source words.old begins.old.items begins.old.states }
-    requires k_lt_found { (k < begins.old.states) × (edges.old.many + 95 ≤ 12160) }
-    ensures { (edges.new.rows ≡ edges.old.rows) × ((s : Search source.entry words.old begins.old.items begins.old.states) → TakenAs s.T s.start s.Rs (take_to s.T s.room (get_or s.Rs k []) s.Rs (tried s.T)) words.new begins.new.items edges.old.words edges.new.words edges.old.many begins.new.states edges.new.many result) }
+    requires k_lt_found { (k < begins.old.states) × (item_limit * 5 ≤ length kernel.old) × (edges.old.many + 95 ≤ 12160) }
+    ensures { (length kernel.new ≡ length kernel.old) × (edges.new.rows ≡ edges.old.rows) × ((s : Search source.entry words.old begins.old.items begins.old.states) → TakenAs s.T s.start s.Rs (take_to s.T s.room (get_or s.Rs k []) s.Rs (tried s.T)) words.new begins.new.items edges.old.words edges.new.words edges.old.many begins.new.states edges.new.many result) }
 {
     for n in 0..source.sizes.nonterminals {
         let symbol = Symbol::Nonterminal(NonterminalString(n as u16));

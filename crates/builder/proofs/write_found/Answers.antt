@@ -13,7 +13,7 @@ pub write_table-requires : goal.write_table-requires
 write_table-requires c = let s = c.requires.1 in (table_found s, laid s _ (c.measure.ensures (complete s)) c.in_ok-measured.was refl)
 
 pub write_conflicts-requires : goal.write_conflicts-requires
-write_conflicts-requires c = let s = c.requires.1 in (collection _ (complete s), list_room s _ (c.measure.ensures (complete s)) c.in_ok-measured.was)
+write_conflicts-requires c = let s = c.requires.1 in (collection _ _ _ (complete s), list_room s _ (c.measure.ensures (complete s)) c.in_ok-measured.was)
 
 pub overflow_cast-result : goal.overflow_cast-result
 overflow_cast-result c = let s = c.requires.1 in let l = few_records s _ (c.measure.ensures (complete s)) c.in_ok-measured.was in omega arith
@@ -22,4 +22,4 @@ pub overflow_cast-result-2 : goal.overflow_cast-result-2
 overflow_cast-result-2 c = let s = c.requires.1 in let l = few_conflicts s _ (c.measure.ensures (complete s)) c.in_ok-measured.was in omega arith
 
 pub returns : goal.returns
-returns c = λ T s. let h = c.measure.ensures (complete s) in full-answer s _ h c.in_ok-measured.was _ _ (c.write_table.ensures (table_found s) (laid s _ h c.in_ok-measured.was refl)) (c.write_conflicts.ensures (collection _ (complete s)) (list_room s _ h c.in_ok-measured.was))
+returns c = λ T s. let h = c.measure.ensures (complete s) in full-answer s _ h c.in_ok-measured.was _ _ (c.write_table.ensures (table_found s) (laid s _ h c.in_ok-measured.was refl)) (c.write_conflicts.ensures (collection _ _ _ (complete s)) (list_room s _ h c.in_ok-measured.was))

@@ -8,4 +8,4 @@ use mathlib.Core.Path.{◌≡◌}
 use Rattle.conflict_list.proofs.write_conflicts.Given as goal
 
 abbrev pub invariant-loop-k : goal.invariant-loop-k
-invariant-loop-k l = (length l.list ≡ length l.initial.list) × ((s : Collection l.found) → length (conflict_words s.T s.Rs) ≤ length l.initial.list → Turn 0 (conflict_words s.T s.Rs) l.initial.list l.place (rest s.T s.Rs l.k l.found.begins.now.states) l.list)
+invariant-loop-k l = (length l.list ≡ length l.initial.list) × ((s : Collection l.kept) → length (conflict_words s.T s.Rs) ≤ length l.initial.list → Turn 0 (conflict_words s.T s.Rs) l.initial.list l.place (rest s.T s.Rs l.k l.kept.begins.now.states) l.list)

@@ -14,7 +14,7 @@ pub overflow_cast-pair-in-loop-other : goal.overflow_cast-pair-in-loop-other
 overflow_cast-pair-in-loop-other c = omega (arith, c.args.actions.now.few, c.loop-other-test.true)
 
 pub common-requires : goal.common-requires
-common-requires c = (c.requires.production_lt_productions, c.loop-other-test.true)
+common-requires c = (omega (arith, c.requires.production_lt_productions, c.args.actions.now.few), omega (arith, c.args.actions.now.few, c.loop-other-test.true))
 
 pub write_tokens-place-requires : goal.write_tokens-place-requires
 write_tokens-place-requires c = pair-room c.args.state c.args.actions.now.reductions c.args.production c.loop-other.other c.args.actions.now.productions c.common.result.0 _ _ _ _ _ c.loop-other.invariant c.loop-other-test.true c.common.ensures

@@ -6,7 +6,7 @@ pub overflow_cast-pair : goal.overflow_cast-pair
 overflow_cast-pair c = omega (arith, c.requires.production_lt_productions, c.args.actions.now.few)
 
 pub shifts_of-requires : goal.shifts_of-requires
-shifts_of-requires c = c.requires.production_lt_productions
+shifts_of-requires c = omega (arith, c.requires.production_lt_productions, c.args.actions.now.few)
 
 pub write_tokens-place-requires : goal.write_tokens-place-requires
 write_tokens-place-requires c = shifts-room c.args.state c.args.actions.now.reductions c.args.actions.now.shifts.0 c.args.actions.now.productions c.args.production c.shifts_of.result.0 _ c.args.list.now c.shifts_of.ensures c.requires.production_in_bounds

@@ -1,9 +1,9 @@
-use Rattle.finding.proofs.Laws.{kernel_places, kernel_flat, closed_is}
+use Rattle.finding.proofs.Laws.{kernel_few, kernel_places, kernel_flat, closed_is}
 use Rattle.std.proofs.Common.{arith}
 use Rattle.finding.proofs.close.Goals as goal
 
 pub unpack-state-requires : goal.unpack-state-requires
-unpack-state-requires c = record { from_le_past = (omega arith, omega (arith, c.args.kernel.now.room), omega (arith, c.args.kernel.now.room)); by_index = kernel_places _ _ _ c.args.source.grammar.packed.few c.requires.kernel }
+unpack-state-requires c = let k = kernel_few _ _ _ c.args.source.grammar.packed.few c.requires.kernel in record { from_le_past = (omega arith, omega (arith, k), omega arith); by_index = kernel_places _ _ _ c.args.source.grammar.packed.few c.requires.kernel }
 
 pub transitive_closure-requires : goal.transitive_closure-requires
 transitive_closure-requires c = record { held = c.requires.held; flat = kernel_flat _ _ _ c.args.source.grammar.packed.few c.requires.kernel _ c.unpack-state.ensures }

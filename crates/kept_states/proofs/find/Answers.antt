@@ -1,4 +1,4 @@
-use Rattle.std.proofs.Common.{◌≡◌, true, false, tests, rules}
+use Rattle.std.proofs.Common.{◌≡◌, ◌/◌, true, false, length, tests, rules}
 use Rattle.std.proofs.lemmas.Iterator.{first_from_Range}
 use Rattle.stored.specs.Stored.{entries, is_same_kernel}
 use Rattle.kept_states.specs.Kept.{state_in}
@@ -8,7 +8,7 @@ use Rattle.kept_states.proofs.find.Goals as goal
 pub returns : goal.returns
 unfolding state_in
 returns c =
-    let ks = entries c.args.kernel.now.words 0 c.args.kernel.now.many in
+    let ks = entries c.args.kernel.now 0 (length c.args.kernel.now / 5) in
     let ws = c.args.words.now in
     let bs = c.args.begins.now.items in
     found_first ks ws bs _ _ (first_from_Range _ _ _ _ (λ k. is_same_kernel (state_in ws bs k) ks ≡ true) (λ k. is_same_kernel (state_in ws bs k) ks ≡ false) c.find.ensures.ran

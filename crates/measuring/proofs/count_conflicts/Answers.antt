@@ -11,15 +11,15 @@ use Rattle.measuring.proofs.count_conflicts.Goals as goal
 pub sum-requires-clause-fits : goal.sum-requires-clause-fits
 sum-requires-clause-fits c =
     let s = c.requires in
-    let n = c.args.found.begins.now.states in
+    let n = c.args.kept.begins.now.states in
     fits_by_from_yields_list (λ k. length (clashes s.T (get_or s.Rs k []))) (range_with_len 0 n) c.map.result _
     (YieldsList-from_map _ (λ k. length (clashes s.T (get_or s.Rs k []))) (YieldsList-at c.map.ensures.source (YieldsList-from_range 0 n n refl (omega arith))) c.map.ensures.closure (λ x a q k. search (rules, tests)))
     (omega (arith, sum_states s.T s.Rs n s.many, sum_clashes s.T s.grammar.fits s.Rs, s.many, s.holds.begun.few))
 
 pub returns : goal.returns
 returns c =
-    let n = c.args.found.begins.now.states in
-    let sum_is : (s : Collection c.args.found) → c.sum.result ≡ sum (λ (S : List ℕ). length (clashes s.T S)) s.Rs =
+    let n = c.args.kept.begins.now.states in
+    let sum_is : (s : Collection c.args.kept) → c.sum.result ≡ sum (λ (S : List ℕ). length (clashes s.T S)) s.Rs =
     λ s. sum_by_from_yields_List (λ k. length (clashes s.T (get_or s.Rs k []))) (range_with_len 0 n) c.map.result _ c.sum.ensures.ran
     (YieldsList-from_map _ (λ k. length (clashes s.T (get_or s.Rs k []))) (YieldsList-at c.map.ensures.source (YieldsList-from_range 0 n n refl (omega arith))) c.map.ensures.closure (λ x a q k. search (rules, tests)))
     ∙ sum_states s.T s.Rs n s.many in

@@ -3,10 +3,10 @@ use native.Mathlib.Omega.{arith}
 use Rattle.measuring.proofs.table_records.Goals as goal
 
 pub overflow_add-result-2 : goal.overflow_add-result-2
-overflow_add-result-2 c = omega (arith, few_begins _ c.requires, few_states _ c.requires, c.requires.small)
+overflow_add-result-2 c = omega (arith, few_begins _ _ _ c.requires, few_states _ _ _ c.requires, c.requires.small)
 
 pub overflow_add-result-3 : goal.overflow_add-result-3
-overflow_add-result-3 c = omega (arith, few_begins _ c.requires, few_states _ c.requires, c.requires.small, c.requires.all.few)
+overflow_add-result-3 c = omega (arith, few_begins _ _ _ c.requires, few_states _ _ _ c.requires, c.requires.small, c.requires.all.few)
 
 pub returns : goal.returns
-returns c = λ s. records_are _ s
+returns c = λ s. records_are _ _ _ s

@@ -13,20 +13,17 @@ loop-s-init c = (omega (arith, c.requires.1.0, rows_few c.requires.0 (λ s. s.it
 pub span-item-requires : goal.span-item-requires
 span-item-requires c = omega (arith, c.loop-s-test.true, c.loop-s.invariant.0)
 
-pub span-edge-requires : goal.span-edge-requires
-span-edge-requires c = omega (arith, c.loop-s-test.true, c.loop-s.invariant.0)
-
 pub overflow_sub-item_past : goal.overflow_sub-item_past
 overflow_sub-item_past c = let P = c.requires in omega (arith, rows_count P.0 (λ s. s.items) _ P.1.1.1.1.1.0 _ (inside_is _ _ _ c.loop-s-test.true P.1.0), c.span-item.ensures)
 
 pub overflow_add-items : goal.overflow_add-items
 overflow_add-items c = let P = c.requires in omega (arith, state_items P.0 _ P.1.1.1.1.1.1.1 _ (inside_is _ _ _ c.loop-s-test.true P.1.0) _ P.1.1.1.1.1.0 _ P.1.1.1.0, c.span-item.ensures)
 
-pub overflow_sub-edge_past : goal.overflow_sub-edge_past
-overflow_sub-edge_past c = let P = c.requires in omega (arith, rows_count P.0 (λ s. s.edges) _ P.1.1.1.1.1.1.0 _ (inside_is _ _ _ c.loop-s-test.true P.1.0), c.span-edge.ensures)
+pub overflow_sub-rows : goal.overflow_sub-rows
+overflow_sub-rows c = let P = c.requires in omega (arith, rows_count P.0 (λ s. s.edges) _ P.1.1.1.1.1.1.0 _ (inside_is _ _ _ c.loop-s-test.true P.1.0))
 
 pub overflow_add-ends : goal.overflow_add-ends
-overflow_add-ends c = let P = c.requires in omega (arith, state_edges P.0 _ P.1.1.1.1.1.1.1 _ (inside_is _ _ _ c.loop-s-test.true P.1.0) _ P.1.1.1.1.1.1.0 _ P.1.1.1.1.0, c.span-edge.ensures)
+overflow_add-ends c = let P = c.requires in omega (arith, state_edges P.0 _ P.1.1.1.1.1.1.1 _ (inside_is _ _ _ c.loop-s-test.true P.1.0) _ P.1.1.1.1.1.1.0 _ P.1.1.1.1.0)
 
 pub overflow_add-at : goal.overflow_add-at
 overflow_add-at c = let P = c.requires in omega (arith, (state_room P.0 _ P.1.1.1.1.1.1.1 _ (inside_is _ _ _ c.loop-s-test.true P.1.0) _ c.loop-s.out P.1.1.0 c.loop-s.auto.out).0)
@@ -34,12 +31,12 @@ overflow_add-at c = let P = c.requires in omega (arith, (state_room P.0 _ P.1.1.
 pub put-requires : goal.put-requires
 put-requires c = let P = c.requires in
     let R = P.1.1.1.1.1.1.1 in
-    let h = inside_is _ _ _ c.loop-s-test.true P.1.0 in record { r_lt_record_limit = state_room P.0 _ R _ h _ c.loop-s.out P.1.1.0 c.loop-s.auto.out; a_bound = (head_small _ _ _ (state_items P.0 _ R _ h _ P.1.1.1.1.1.0 _ P.1.1.1.0) (rw (c.span-item.ensures.0, c.span-item.ensures.1) at c.head_of-item_head.ensures), (head_small _ _ _ (state_edges P.0 _ R _ h _ P.1.1.1.1.1.1.0 _ P.1.1.1.1.0) (rw (c.span-edge.ensures.0, c.span-edge.ensures.1) at c.head_of-edge_head.ensures), (omega arith, omega arith))) }
+    let h = inside_is _ _ _ c.loop-s-test.true P.1.0 in record { r_lt_record_limit = state_room P.0 _ R _ h _ c.loop-s.out P.1.1.0 c.loop-s.auto.out; a_bound = (head_small _ _ _ (state_items P.0 _ R _ h _ P.1.1.1.1.1.0 _ P.1.1.1.0) (rw (c.span-item.ensures.0, c.span-item.ensures.1) at c.head_of-item_head.ensures), (head_small _ _ _ (state_edges P.0 _ R _ h _ P.1.1.1.1.1.1.0 _ P.1.1.1.1.0) c.head_of-edge_head.ensures, (omega arith, omega arith))) }
 
 pub loop-s-preserved : goal.loop-s-preserved
 loop-s-preserved c = let W = c.loop-s.invariant in (
   W.0,
-  λ U es ea ei ee B D R. state_put U _ R _ (inside_is _ _ _ c.loop-s-test.true es) _ _ _ _ _ _ _ _ _ B D ea ei ee c.loop-s.auto.out (rw (c.span-item.ensures.0, c.span-item.ensures.1) at c.head_of-item_head.ensures) (rw (c.span-edge.ensures.0, c.span-edge.ensures.1) at c.head_of-edge_head.ensures) c.put.ensures (W.1 U es ea ei ee B D R),
+  λ U es ea ei ee B D R. state_put U _ R _ (inside_is _ _ _ c.loop-s-test.true es) _ _ _ _ _ _ _ _ _ B D ea ei ee c.loop-s.auto.out (rw (c.span-item.ensures.0, c.span-item.ensures.1) at c.head_of-item_head.ensures) c.head_of-edge_head.ensures c.put.ensures (W.1 U es ea ei ee B D R),
 )
 
 pub returns : goal.returns

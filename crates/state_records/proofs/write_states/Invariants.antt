@@ -9,4 +9,4 @@ use Rattle.state_records.specs.Rows.{BeginsOf}
 use Rattle.state_records.proofs.write_states.Given as goal
 
 abbrev pub invariant-loop-s : goal.invariant-loop-s
-invariant-loop-s l = (l.begins.states ≤ state_limit) × ((U : Table) → l.begins.states ≡ length U.states → l.at ≡ states_at U → l.items ≡ items_place U → l.ends ≡ edges_at U → BeginsOf (item_lists U) l.begins.items → BeginsOf (edge_lists U) l.edges.rows → Room U l.initial.out → Grown U l.initial.out l.out (states_at U) (states_at U + l.s))
+invariant-loop-s l = (l.begins.states ≤ state_limit) × ((U : Table) → l.begins.states ≡ length U.states → l.at ≡ states_at U → l.items ≡ items_place U → l.ends ≡ edges_at U → BeginsOf (item_lists U) l.begins.items → BeginsOf (edge_lists U) l.rows → Room U l.initial.out → Grown U l.initial.out l.out (states_at U) (states_at U + l.s))

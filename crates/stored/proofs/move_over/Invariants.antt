@@ -1,4 +1,4 @@
-use Rattle.std.proofs.Common.{◌≡◌, ◌-◌, ◌*◌}
+use Rattle.std.proofs.Common.{◌≡◌, ◌-◌, ◌*◌, length}
 use Rattle.std.specs.Slice.Iter.{chunks_exact_rest, chunks_exact_size}
 use Rattle.repr.specs.Sizes.{index_limit}
 use Rattle.repr.specs.Symbols.{meant}
@@ -7,4 +7,4 @@ use Rattle.stored.proofs.Stored.{all_entries, Turn}
 use Rattle.stored.proofs.move_over.Given as goal
 
 abbrev pub invariant-loop-item : goal.invariant-loop-item
-invariant-loop-item l = (chunks_exact_size l.item-iterator ≡ 5) × Turn l.grammar.words.now (meant l.symbol) (index_limit * l.grammar.productions) (entries l.words l.from (l.past - l.from)) l.kernel.words l.kernel.many (all_entries (chunks_exact_rest l.item-iterator))
+invariant-loop-item l = (chunks_exact_size l.item-iterator ≡ 5) × (length l.kernel ≡ length l.initial.kernel) × Turn l.grammar.words.now (meant l.symbol) (index_limit * l.grammar.productions) (entries l.words l.from (l.past - l.from)) l.kernel l.many (all_entries (chunks_exact_rest l.item-iterator))

@@ -1,6 +1,6 @@
 use Rattle.std.proofs.Common.{arith}
 use Rattle.measuring.proofs.Laws.{at_rises, at_ends, at_places, at_flat, at_state}
-use Rattle.measuring.proofs.FoundStates.state.Goals as goal
+use Rattle.measuring.proofs.KeptStates.state.Goals as goal
 
 pub span-from-requires : goal.span-from-requires
 span-from-requires c = omega (arith, c.requires.k_lt_states, c.requires.collection.many, c.requires.collection.holds.begun.few)
