@@ -2,7 +2,7 @@
 
 #![tactic(auto)]
 
-ghost use Rattle.std.specs.Prelude.{◌≡◌, ℕ, suc, ◌+◌, ◌-◌, ◌*◌, ◌/◌, ◌^◌, ◌<◌, ◌≤◌, true, false, List, [], MatchResult, length, take, slice_index, slice_index_or};
+ghost use Rattle.std.specs.Prelude.{◌≡◌, ℕ, suc, ◌+◌, ◌-◌, ◌*◌, ◌/◌, ◌^◌, ◌<◌, ◌≤◌, true, false, List, [], OnErr, MatchResult, length, take, slice_index, slice_index_or};
 ghost use Rattle.repr.specs.Sizes.{index_limit, item_limit, record_limit, state_limit};
 ghost use Rattle.repr.specs.Meaning.{Table};
 ghost use Rattle.repr.specs.Symbols.{meant};
@@ -56,7 +56,7 @@ impl From<Halt> for Refusal {
 }
 
 // Here and in the crates above that take states, what is given, the words, where states begin and the kernel stand beside each other. Tried as one struct: with the kernel in it a field would be lent to be changed
-// while another is lent, or 10,880 words copied at each goto; without it every step is proved, and the call in crate builder is not covered, where the grammar, its sets and the words are lent at lifetimes of their own.
+// while another is lent, or its words copied at each goto; without it every step is proved, and the call in crate builder is not covered, where the grammar, its sets and the words are lent at lifetimes of their own.
 // One state more, by its items flat, stored behind the others if it has room; without it nothing changes.
 pub fn append(
     items: &[u64],
@@ -90,7 +90,7 @@ pub fn close(source: Source, kernel: &[u16]) -> [u64; Item::LIMIT]
     state
 }
 
-// A kernel that no state has, closed and stored: the new state's number, answered as `goto_over` answers it, since `Reached` says of both what is left: a number alone would need a second definition.
+// A kernel that no state has, closed and stored, or nothing changes: the new state's number, answered as `goto_over` answers it, since `Reached` says of both what is left: a number alone would need a second definition.
 fn store(
     source: Source,
     words: &mut [u16],
@@ -99,7 +99,7 @@ fn store(
 ) -> Result<Option<usize>, Halt>
     requires search { Search source words.old begins.old.items begins.old.states }
     requires kernel { KernelIn kernel.now (length kernel.now / 5) source.grammar.productions }
-    ensures { (s : Search source.entry words.old begins.old.items begins.old.states) (M : List ℕ) → length M ≡ index_limit * source.entry.grammar.productions → entries kernel.now 0 (length kernel.now / 5) ≡ packed M → Made s.T s.start (closure s.T M) → place (closure s.T M) s.Rs ≡ length s.Rs → Reached s.T s.start s.Rs (add_to s.T s.room (closure s.T M) s.Rs) words.new begins.new.items begins.new.states result }
+    ensures { OnErr result ((words.new ≡ words.old) × (begins.new ≡ begins.old)) × ((s : Search source.entry words.old begins.old.items begins.old.states) (M : List ℕ) → length M ≡ index_limit * source.entry.grammar.productions → entries kernel.now 0 (length kernel.now / 5) ≡ packed M → Made s.T s.start (closure s.T M) → place (closure s.T M) s.Rs ≡ length s.Rs → Reached s.T s.start s.Rs (add_to s.T s.room (closure s.T M) s.Rs) words.new begins.new.items begins.new.states result) }
 {
     let number = begins.states;
     if number == Begins::STATES {
@@ -111,7 +111,7 @@ fn store(
     Ok(Some(number))
 }
 
-// The goto of state k over a symbol; None if no item has its cursor there.
+// The goto of state k over a symbol; None if no item has its cursor there. Where it halts, the states found are those of before.
 pub fn goto_over(
     source: Source,
     words: &mut [u16],
@@ -122,7 +122,7 @@ pub fn goto_over(
 ) -> Result<Option<usize>, Halt>
     requires search { Search source words.old begins.old.items begins.old.states }
     requires k_lt_states { (k < begins.old.states) × IsOneOf source.sizes.nonterminals source.sets.now.terminals (meant symbol) × (item_limit * 5 ≤ length kernel.old) }
-    ensures { (length kernel.new ≡ length kernel.old) × ((s : Search source.entry words.old begins.old.items begins.old.states) → Reached s.T s.start s.Rs (goto_to s.T s.room (slice_index_or s.Rs k []) s.Rs (meant symbol)) words.new begins.new.items begins.new.states result) }
+    ensures { (length kernel.new ≡ length kernel.old) × OnErr result ((words.new ≡ words.old) × (begins.new ≡ begins.old)) × ((s : Search source.entry words.old begins.old.items begins.old.states) → Reached s.T s.start s.Rs (goto_to s.T s.room (slice_index_or s.Rs k []) s.Rs (meant symbol)) words.new begins.new.items begins.new.states result) }
 {
     let (begin, past) = begins.span(k);
     let many = move_over(source.grammar, words, begin, past, symbol, kernel);

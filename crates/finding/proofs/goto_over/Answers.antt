@@ -14,7 +14,7 @@ move_over-many-requires c = let r = c.requires.k_lt_states in
 pub returns-then-many-eq0 : goal.returns-then-many-eq0
 returns-then-many-eq0 c = let r = c.requires.k_lt_states in
     let m = rw (c.span-begin.ensures.0, c.span-begin.ensures.1) at c.move_over-many.ensures in
-    (m.1, λ s. over-nowhere _ _ _ _ s _ r.0 _ r.1 _ (rw m.1 r.2) _ m.0 m.2 c.if-many-eq0.true)
+    (m.1, tt, λ s. over-nowhere _ _ _ _ s _ r.0 _ r.1 _ (rw m.1 r.2) _ m.0 m.2 c.if-many-eq0.true)
 
 pub slice_bounds-moved-end : goal.slice_bounds-moved-end
 slice_bounds-moved-end c = let r = c.requires.k_lt_states in
@@ -30,7 +30,7 @@ find-requires c = over-begun _ _ _ _ c.requires.search _ c.requires.k_lt_states.
 pub returns-in-Some : goal.returns-in-Some
 returns-in-Some c = let r = c.requires.k_lt_states in
     let m = rw (c.span-begin.ensures.0, c.span-begin.ensures.1) at c.move_over-many.ensures in
-    (m.1, λ s. over_old _ _ _ _ s _ r.0 _ r.1 _ (rw m.1 r.2) _ m.0 m.2 c.if-many-eq0.false _ c.in-Some.ensures.1 c.in-Some.ensures.0)
+    (m.1, tt, λ s. over_old _ _ _ _ s _ r.0 _ r.1 _ (rw m.1 r.2) _ m.0 m.2 c.if-many-eq0.false _ c.in-Some.ensures.1 c.in-Some.ensures.0)
 
 pub store-requires : goal.store-requires
 store-requires c = let r = c.requires.k_lt_states in
@@ -40,4 +40,4 @@ store-requires c = let r = c.requires.k_lt_states in
 pub returns-in-None : goal.returns-in-None
 returns-in-None c = let r = c.requires.k_lt_states in
     let m = rw (c.span-begin.ensures.0, c.span-begin.ensures.1) at c.move_over-many.ensures in
-    (m.1, λ s. over_new _ _ _ _ s _ r.0 _ r.1 _ (rw m.1 r.2) _ m.0 m.2 c.if-many-eq0.false _ c.in-None.ensures refl _ _ _ _ (λ M l e w p. c.store.ensures s M l e w p))
+    (m.1, c.store.ensures.0, λ s. over_new _ _ _ _ s _ r.0 _ r.1 _ (rw m.1 r.2) _ m.0 m.2 c.if-many-eq0.false _ c.in-None.ensures refl _ _ _ _ (λ M l e w p. c.store.ensures.1 s M l e w p))
