@@ -81,18 +81,18 @@ module _ {T : Table} {room : ℕ} {found : FoundStates} (s : Ended T room found)
   Rs = s.all.Rs
 
   abbrev ds : List (List Edge)
-  ds = rows_in found.edges.now.words found.edges.now.rows found.kept.begins.now.states
+  ds = rows_in found.edges.now.list.words found.edges.now.rows found.kept.begins.now.states
 
   abbrev pub table_found : Table
-  table_found = built_table T s.all.Rs (rows_in found.edges.now.words found.edges.now.rows found.kept.begins.now.states)
+  table_found = built_table T s.all.Rs (rows_in found.edges.now.list.words found.edges.now.rows found.kept.begins.now.states)
 
   long_rows : length ds ≡ length Rs
   unfolding rows_in
-  long_rows = length-map-below (row_in found.edges.now.words found.edges.now.rows) found.kept.begins.now.states ∙ s.all.many
+  long_rows = length-map-below (row_in found.edges.now.list.words found.edges.now.rows) found.kept.begins.now.states ∙ s.all.many
 
-  row_at : (k : ℕ) → k < found.kept.begins.now.states → get_or ds k [] ≡ row_in found.edges.now.words found.edges.now.rows k
+  row_at : (k : ℕ) → k < found.kept.begins.now.states → get_or ds k [] ≡ row_in found.edges.now.list.words found.edges.now.rows k
   unfolding rows_in
-  row_at k h = get_d_map-below (row_in found.edges.now.words found.edges.now.rows) found.kept.begins.now.states k [] h
+  row_at k h = get_d_map-below (row_in found.edges.now.list.words found.edges.now.rows) found.kept.begins.now.states k [] h
 
   long_states : length table_found.states ≡ length Rs
   unfolding built_table
@@ -115,7 +115,7 @@ module _ {T : Table} {room : ℕ} {found : FoundStates} (s : Ended T room found)
     is = λ k h. ap (map item_of) (s.all.holds.is k (rw long_states at h)) ∙ packed-written (get_or Rs k []) ∙ sym (ap (λ (q : State). q.items) (state_at_lem k h));
   }
 
-  edges_in_lem : EdgesIn table_found found.edges.now.words found.edges.now.rows
+  edges_in_lem : EdgesIn table_found found.edges.now.list.words found.edges.now.rows
   edges_in_lem = record {
     begins = rw (edges_are T Rs ds long_rows) (record {
       few = omega (arith, long_rows, s.all.holds.begun.few);
@@ -123,7 +123,7 @@ module _ {T : Table} {room : ℕ} {found : FoundStates} (s : Ended T room found)
       next = λ k h.
           let i : k < found.kept.begins.now.states = omega (arith, long_rows, s.all.many) in
           let up = s.all.rises k i in
-          let m : length (get_or ds k []) ≡ get_or found.edges.now.rows (k + 1) 0 - get_or found.edges.now.rows k 0 = ap length (row_at k i) ∙ length_row found.edges.now.words found.edges.now.rows k in
+          let m : length (get_or ds k []) ≡ get_or found.edges.now.rows (k + 1) 0 - get_or found.edges.now.rows k 0 = ap length (row_at k i) ∙ length_row found.edges.now.list.words found.edges.now.rows k in
           omega (arith, up, m);
     });
     is = λ k h. let i : k < found.kept.begins.now.states = omega (arith, long_states, s.all.many) in sym (ap (λ (q : State). q.edges) (state_at_lem k h) ∙ row_at k i);
@@ -238,7 +238,7 @@ module _ {T : Table} {room : ℕ} (source : Source) (start : ℕ) (F : TableFits
     all_found x = rw x at (w ready)
 
   abbrev pub ended : (words : Bor (List ℕ)) (begins : Bor Begins) (edges : Bor Edges) {r : Result (Unit {0}) Halt}
-      → ((s : Ready source start) → FoundAs s.T start (found_to s.T start s.room) words.now begins.now.items edges.now.words edges.now.rows begins.now.states r) → {u : Unit {0}} → r ≡ Ok u
+      → ((s : Ready source start) → FoundAs s.T start (found_to s.T start s.room) words.now begins.now.items edges.now.list.words edges.now.rows begins.now.states r) → {u : Unit {0}} → r ≡ Ok u
       → Ended T room (record { kept = record { grammar = source.grammar; words = words; begins = begins }; sizes = source.sizes; terminals = source.sets.now.terminals; edges = edges })
   ended words begins edges w x = record {
     start = start;
@@ -247,5 +247,5 @@ module _ {T : Table} {room : ℕ} (source : Source) (start : ℕ) (F : TableFits
     started = started;
     counted = z.counted;
     small = z.small;
-    all = all_found words.now begins.now.items edges.now.words edges.now.rows begins.now.states w x;
+    all = all_found words.now begins.now.items edges.now.list.words edges.now.rows begins.now.states w x;
   }

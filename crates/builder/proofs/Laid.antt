@@ -55,7 +55,7 @@ module _ {U : Table} {found : FoundStates} {out : List ℕ} (L : Laid U found ou
       → ((W : Table) → Target W found.sizes.nonterminals found.terminals found.kept.begins.now.states o₂ → PackedAs W found.kept.grammar.words.now found.kept.grammar.productions → Grown W o₂ o₃ (productions_at W) (symbols_at W))
       → ((W : Table) → PackedAs W found.kept.grammar.words.now found.kept.grammar.productions → 1 + found.sizes.nonterminals + found.kept.begins.now.states + found.kept.grammar.productions ≡ symbols_at W → Room W o₃ → Grown W o₃ o₄ (symbols_at W) (items_place W))
       → ((W : Table) → found.kept.begins.now.states ≡ length W.states → found.sizes.fixed + found.kept.begins.now.states ≡ items_place W → ItemsIn W found.kept.words.now found.kept.begins.now.items → Room W o₄ → Grown W o₄ o₅ (items_place W) (edges_at W))
-      → ((W : Table) → found.kept.begins.now.states ≡ length W.states → found.sizes.fixed + found.kept.begins.now.states + get_or found.kept.begins.now.items found.kept.begins.now.states 0 ≡ edges_at W → EdgesIn W found.edges.now.words found.edges.now.rows → Room W o₅ → Grown W o₅ o₆ (edges_at W) (records_of W))
+      → ((W : Table) → found.kept.begins.now.states ≡ length W.states → found.sizes.fixed + found.kept.begins.now.states + get_or found.kept.begins.now.items found.kept.begins.now.states 0 ≡ edges_at W → EdgesIn W found.edges.now.list.words found.edges.now.rows → Room W o₅ → Grown W o₅ o₆ (edges_at W) (records_of W))
       → o₆ ≡ in_front (spell U) out
   all-written o₁ o₂ o₃ o₄ o₅ o₆ front states productions symbols items edges =
       let a : Grown U out o₁ 0 (states_at U) = front U L.target L.packed in

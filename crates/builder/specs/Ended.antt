@@ -25,7 +25,7 @@ pub record Ended (T : Table) (room : ℕ) (found : FoundStates) : Type 0 where
   pub started : start < found.kept.grammar.productions
   pub counted : Counted T room found.sizes.nonterminals found.sizes.fixed found.sizes.limit
   pub small : found.sizes.fixed ≤ 65536
-  pub all : FoundAll T start (found_to T start room) found.kept.words.now found.kept.begins.now.items found.edges.now.words found.edges.now.rows found.kept.begins.now.states
+  pub all : FoundAll T start (found_to T start room) found.kept.words.now found.kept.begins.now.items found.edges.now.list.words found.edges.now.rows found.kept.begins.now.states
 
 -- as `measure` takes it
 module _ {T : Table} {room : ℕ} {found : FoundStates} (s : Ended T room found) where
@@ -37,7 +37,7 @@ module _ {T : Table} {room : ℕ} {found : FoundStates} (s : Ended T room found)
     terminals = found.terminals;
     sets = s.sets;
     w = found_to T s.start room;
-    E = found.edges.now.words;
+    E = found.edges.now.list.words;
     grammar = s.grammar;
     started = s.started;
     counted = s.counted;
@@ -52,6 +52,6 @@ pub record Laid (U : Table) (found : FoundStates) (out : List ℕ) : Type 0 wher
   pub many : found.kept.grammar.productions ≡ length U.productions
   pub packed : PackedAs U found.kept.grammar.words.now found.kept.grammar.productions
   pub items : ItemsIn U found.kept.words.now found.kept.begins.now.items
-  pub edges : EdgesIn U found.edges.now.words found.edges.now.rows
+  pub edges : EdgesIn U found.edges.now.list.words found.edges.now.rows
   pub items_at : found.sizes.fixed + found.kept.begins.now.states ≡ items_place U
   pub edges_at : found.sizes.fixed + found.kept.begins.now.states + get_or found.kept.begins.now.items found.kept.begins.now.states 0 ≡ edges_at U

@@ -22,15 +22,15 @@ pub fn find_states(
 ) -> Result<(), Halt>
     requires search { Search source words.old begins.old.items begins.old.states }
     requires front { (item_limit * 5 ≤ length kernel.old) × (get_or edges.old.rows 0 0 ≡ 0) }
-    ensures { (s : Search source.entry words.old begins.old.items begins.old.states) → FoundAs s.T s.start (collect_to 129 s.T s.room s.Rs []) words.new begins.new.items edges.new.words edges.new.rows begins.new.states result }
+    ensures { (s : Search source.entry words.old begins.old.items begins.old.states) → FoundAs s.T s.start (collect_to 129 s.T s.room s.Rs []) words.new begins.new.items edges.new.list.words edges.new.rows begins.new.states result }
 {
-    edges.many = 0;
+    edges.list.many = 0;
     let mut k = 0;
     // No range: taking one adds states.
     while k < begins.states {
-        take_state(source, words, begins, k, kernel, edges)?;
+        take_state(source, words, begins, k, kernel, &mut edges.list)?;
         k += 1;
-        edges.rows[k] = edges.many;
+        edges.rows[k] = edges.list.many;
     }
     Ok(())
 }

@@ -25,7 +25,7 @@ pub fn search_states(
 ) -> Result<(), Halt>
     requires ready { Ready source start }
     requires front { (item_limit * 5 ≤ length kernel.old) × (record_limit * 5 ≤ length words.old) × (get_or begins.old.items 0 0 ≡ 0) × (get_or edges.old.rows 0 0 ≡ 0) }
-    ensures { (s : Ready source.entry start) → FoundAs s.T start (found_to s.T start s.room) words.new begins.new.items edges.new.words edges.new.rows begins.new.states result }
+    ensures { (s : Ready source.entry start) → FoundAs s.T start (found_to s.T start s.room) words.new begins.new.items edges.new.list.words edges.new.rows begins.new.states result }
 {
     first_state(source, start, words, begins)?;
     find_states(source, words, begins, kernel, edges)

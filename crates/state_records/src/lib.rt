@@ -16,7 +16,7 @@ use lr1_core::Item;
 use spelling::{head_of, next_of};
 use stored::read_item;
 use table::put;
-use taking::{Edges, FoundEdge};
+use taking::{EdgeList, Edges, FoundEdge};
 
 // The states, from record `at` on: their items begin at record `items`, their edges at record `ends`. That the words are room for the table U, and where its regions begin in it, is asked here and below: it chooses the table, and a ghost field's fact has one proof (crate measuring).
 pub fn write_states(
@@ -65,7 +65,7 @@ pub fn write_items(words: &[u16], begins: &Begins, items: usize, out: &mut [u16]
 
 // The edges of one state.
 fn write_state_edges(
-    edges: &[u16; Edges::LIMIT],
+    edges: &[u16; EdgeList::LIMIT],
     from: usize,
     past: usize,
     at: usize,
@@ -92,11 +92,11 @@ fn write_state_edges(
 
 // The edges of all states, from record `at` on.
 pub fn write_edges(edges: &Edges, states: usize, at: usize, out: &mut [u16])
-    requires { (U : Table) × ((states ≡ length U.states) × ((at ≡ edges_at U) × (EdgesIn U edges.now.words edges.now.rows × Room U out.old))) }
-    ensures { (U : Table) → states ≡ length U.states → at ≡ edges_at U → EdgesIn U edges.now.words edges.now.rows → Room U out.old → Grown U out.old out.new (edges_at U) (records_of U) }
+    requires { (U : Table) × ((states ≡ length U.states) × ((at ≡ edges_at U) × (EdgesIn U edges.now.list.words edges.now.rows × Room U out.old))) }
+    ensures { (U : Table) → states ≡ length U.states → at ≡ edges_at U → EdgesIn U edges.now.list.words edges.now.rows → Room U out.old → Grown U out.old out.new (edges_at U) (records_of U) }
 {
     for k in 0..states {
         let (from, past) = edges.span(k);
-        write_state_edges(&edges.words, from, past, at, out);
+        write_state_edges(&edges.list.words, from, past, at, out);
     }
 }

@@ -54,29 +54,56 @@ impl FoundEdge {
     }
 }
 
-// The edges found, one word each, where those of each state begin, and how many there are: room for one of each state over each symbol, since there is no heap.
+// The edges found, one word each, and how many there are: room for one of each state over each symbol, since there is no heap.
 #[derive(Clone, Copy)]
-pub struct Edges {
-    pub words: [u16; Edges::LIMIT],
-    pub rows: [usize; Begins::ROWS],
+pub struct EdgeList {
+    pub words: [u16; EdgeList::LIMIT],
     pub many: usize,
-    pub ghost long: { (length words ≡ 12160) × (length rows ≡ 129) },
+    pub ghost long: { length words ≡ 12160 },
 }
 
-impl Edges {
+impl EdgeList {
     // Symbols of a table at most.
     const SYMBOLS: usize = Symbol::LIMIT;
 
-    pub const LIMIT: usize = Begins::STATES * Edges::SYMBOLS;
+    pub const LIMIT: usize = Begins::STATES * EdgeList::SYMBOLS;
 
     // Without edges.
+    pub fn new() -> EdgeList
+        ensures { result.many ≡ 0 }
+    {
+        EdgeList {
+            words: [0; EdgeList::LIMIT],
+            many: 0,
+        }
+    }
+
+    // One behind the others.
+    fn push(&mut self, edge: FoundEdge)
+        requires { (self.old.many < 12160) × IsInRange edge.symbol × (edge.target < state_limit) }
+        ensures { (self.new.many ≡ self.old.many + 1) × (self.new.words ≡ set self.old.words self.old.many (symbol_code (meant edge.symbol) * state_limit + edge.target)) }
+    {
+        self.words[self.many] = edge.word();
+        self.many += 1;
+    }
+}
+
+// The edges of all states, and where those of each begin. Taking a state asks for the list alone.
+#[derive(Clone, Copy)]
+pub struct Edges {
+    pub list: EdgeList,
+    pub rows: [usize; Begins::ROWS],
+    pub ghost long: { length rows ≡ 129 },
+}
+
+impl Edges {
+    // Without edges.
     pub fn new() -> Edges
-        ensures { (result.many ≡ 0) × ((k : ℕ) → get_or result.rows k 0 ≡ 0) }
+        ensures { (result.list.many ≡ 0) × ((k : ℕ) → get_or result.rows k 0 ≡ 0) }
     {
         Edges {
-            words: [0; Edges::LIMIT],
+            list: EdgeList::new(),
             rows: [0; Begins::ROWS],
-            many: 0,
         }
     }
 
@@ -86,15 +113,6 @@ impl Edges {
         ensures { (result.0 ≡ get_or self.now.rows k 0) × (result.1 ≡ get_or self.now.rows (k + 1) 0) }
     {
         (self.rows[k], self.rows[k + 1])
-    }
-
-    // One behind the others.
-    fn push(&mut self, edge: FoundEdge)
-        requires { (self.old.many < 12160) × IsInRange edge.symbol × (edge.target < state_limit) }
-        ensures { (self.new.rows ≡ self.old.rows) × (self.new.many ≡ self.old.many + 1) × (self.new.words ≡ set self.old.words self.old.many (symbol_code (meant edge.symbol) * state_limit + edge.target)) }
-    {
-        self.words[self.many] = edge.word();
-        self.many += 1;
     }
 }
 
@@ -106,11 +124,11 @@ fn take_one(
     k: usize,
     symbol: Symbol,
     kernel: &mut [u16],
-    edges: &mut Edges,
+    edges: &mut EdgeList,
 ) -> Result<(), Halt>
     requires search { Search source words.old begins.old.items begins.old.states }
     requires k_lt_states { (k < begins.old.states) × IsOneOf source.sizes.nonterminals source.sets.now.terminals (meant symbol) × (item_limit * 5 ≤ length kernel.old) × (edges.old.many < 12160) }
-    ensures { (length kernel.new ≡ length kernel.old) × (edges.new.rows ≡ edges.old.rows) × ((s : Search source.entry words.old begins.old.items begins.old.states) → Tried s.T s.start s.Rs (goto_to s.T s.room (get_or s.Rs k []) s.Rs (meant symbol)) (symbol_code (meant symbol)) words.new begins.new.items edges.old.words edges.new.words edges.old.many begins.new.states edges.new.many result) }
+    ensures { (length kernel.new ≡ length kernel.old) × ((s : Search source.entry words.old begins.old.items begins.old.states) → Tried s.T s.start s.Rs (goto_to s.T s.room (get_or s.Rs k []) s.Rs (meant symbol)) (symbol_code (meant symbol)) words.new begins.new.items edges.old.words edges.new.words edges.old.many begins.new.states edges.new.many result) }
 {
     if let Some(target) = goto_over(source, words, begins, k, symbol, kernel)? {
         edges.push(FoundEdge { symbol, target });
@@ -125,11 +143,11 @@ pub fn take_state(
     begins: &mut Begins,
     k: usize,
     kernel: &mut [u16],
-    edges: &mut Edges,
+    edges: &mut EdgeList,
 ) -> Result<(), Halt>
     requires search { Search source words.old begins.old.items begins.old.states }
     requires k_lt_found { (k < begins.old.states) × (item_limit * 5 ≤ length kernel.old) × (edges.old.many + 95 ≤ 12160) }
-    ensures { (length kernel.new ≡ length kernel.old) × (edges.new.rows ≡ edges.old.rows) × ((s : Search source.entry words.old begins.old.items begins.old.states) → TakenAs s.T s.start s.Rs (take_to s.T s.room (get_or s.Rs k []) s.Rs (tried s.T)) words.new begins.new.items edges.old.words edges.new.words edges.old.many begins.new.states edges.new.many result) }
+    ensures { (length kernel.new ≡ length kernel.old) × ((s : Search source.entry words.old begins.old.items begins.old.states) → TakenAs s.T s.start s.Rs (take_to s.T s.room (get_or s.Rs k []) s.Rs (tried s.T)) words.new begins.new.items edges.old.words edges.new.words edges.old.many begins.new.states edges.new.many result) }
 {
     for n in 0..source.sizes.nonterminals {
         let symbol = Symbol::Nonterminal(NonterminalString(n as u16));

@@ -9,4 +9,4 @@ use Rattle.state_records.specs.Rows.{EdgesIn}
 use Rattle.state_records.proofs.write_edges.Given as goal
 
 abbrev pub invariant-loop-k : goal.invariant-loop-k
-invariant-loop-k l = (l.states ≤ state_limit) × ((U : Table) → l.states ≡ length U.states → l.at ≡ edges_at U → EdgesIn U l.edges.words l.edges.rows → Room U l.initial.out → Grown U l.initial.out l.out (edges_at U) (edges_at U + get_or l.edges.rows l.k 0))
+invariant-loop-k l = (l.states ≤ state_limit) × ((U : Table) → l.states ≡ length U.states → l.at ≡ edges_at U → EdgesIn U l.edges.list.words l.edges.rows → Room U l.initial.out → Grown U l.initial.out l.out (edges_at U) (edges_at U + get_or l.edges.rows l.k 0))

@@ -1,6 +1,6 @@
 use Rattle.std.proofs.lemmas.Result.{err_from_is_err_and}
 use Rattle.taking.proofs.Laws.{tried-nowhere, tried-stops, tried_to, to_small, one_small}
-use Rattle.std.proofs.Common.{refl, arith}
+use Rattle.std.proofs.Common.{arith}
 use Rattle.taking.proofs.take_one.Goals as goal
 
 pub goto_over-requires : goal.goto_over-requires
@@ -14,10 +14,10 @@ push-requires c = let s = c.requires.search in (
 )
 
 pub returns-in_err-target : goal.returns-in_err-target
-returns-in_err-target c = let q = err_from_is_err_and c.from_residual.result c.from_residual.ensures.1 in (c.in_err-target.ensures.0, refl, λ s. rw (q.1, q.2) (tried-stops _ _ _ _ _ _ _ _ _ _ _ _ (c.in_err-target.ensures.2 s)))
+returns-in_err-target c = let q = err_from_is_err_and c.from_residual.result c.from_residual.ensures.1 in (c.in_err-target.ensures.0, λ s. rw (q.1, q.2) (tried-stops _ _ _ _ _ _ _ _ _ _ _ _ (c.in_err-target.ensures.2 s)))
 
 pub returns-in-Some : goal.returns-in-Some
-returns-in-Some c = let p = c.push.ensures in (c.in_ok-target.ensures.0, p.0, λ s. rw (p.1, p.2) (tried_to _ _ _ _ _ _ _ _ _ _ _ _ (rw c.in-Some.is at (c.in_ok-target.ensures.2 s))))
+returns-in-Some c = let p = c.push.ensures in (c.in_ok-target.ensures.0, λ s. rw (p.0, p.1) (tried_to _ _ _ _ _ _ _ _ _ _ _ _ (rw c.in-Some.is at (c.in_ok-target.ensures.2 s))))
 
 pub returns-in_default : goal.returns-in_default
-returns-in_default c = (c.in_ok-target.ensures.0, refl, λ s. tried-nowhere _ _ _ _ _ _ _ _ _ _ _ (rw c.in_default.is at (c.in_ok-target.ensures.2 s)))
+returns-in_default c = (c.in_ok-target.ensures.0, λ s. tried-nowhere _ _ _ _ _ _ _ _ _ _ _ (rw c.in_default.is at (c.in_ok-target.ensures.2 s)))
