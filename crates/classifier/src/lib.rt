@@ -106,12 +106,12 @@ pub fn classify(
     requires { (example_room ≤ length action.old) × (example_room ≤ length reduce.old) }
     ensures { (scratch : List ℕ) → outcome (reading_of result) (zeroed classify_scratch scratch) action.new reduce.new ≡ gathered_outcome (meaning case.entry.given.table.words.now) case.entry.conflict scratch action.old reduce.old (gather (meaning case.entry.given.table.words.now) case.entry.conflict) }
 {
-    let mut kept = [0u16; Outline::ALL_WORDS];
-    let mut prints = [0u64; Conflict::EXAMPLES];
-    let mut actions = Side::of(&mut kept, &mut prints);
-    let mut other_kept = [0u16; Outline::ALL_WORDS];
-    let mut other_prints = [0u64; Conflict::EXAMPLES];
-    let mut reduces = Side::of(&mut other_kept, &mut other_prints);
+    let mut action_kept = [0u16; Outline::ALL_WORDS];
+    let mut action_prints = [0u64; Conflict::EXAMPLES];
+    let mut actions = Side::of(&mut action_kept, &mut action_prints);
+    let mut reduce_kept = [0u16; Outline::ALL_WORDS];
+    let mut reduce_prints = [0u64; Conflict::EXAMPLES];
+    let mut reduces = Side::of(&mut reduce_kept, &mut reduce_prints);
     let own = action_examples(case, &mut actions)?;
     let found = action_examples(case.reduced(), &mut reduces)?;
     let class = classify_kept(
