@@ -154,7 +154,7 @@ module _ {T : Table} {room : ℕ} {found : FoundStates} (s : Ended T room found)
     pub stops-answer : {v : Halt} → m ≡ Err v → {out conflicts : List ℕ} (S : List ℕ)
         → record { answer = refused (refusal_of v) 0; scratch = zeroed build_scratch S; out = out; conflicts = conflicts } ≡ built_of T S out conflicts (outcome T s.start room words)
     unfolding MeasuredAs built_of
-    stops-answer {v} e S = let q : finish T room words (built Rs ds) ≡ stopped (refusal_of v) = rw e at h in rw (outcome_is words ∙ q) refl
+    stops-answer {v} e S = let q : MeasuredAs T room words Rs ds (Err v) = rw e at h in rw (q.0, outcome_is words ∙ q.1) refl
 
     module _ {v : Measured} (e : m ≡ Ok v) where
       fitted : MeasuredAs T room words Rs ds (Ok v)

@@ -48,7 +48,7 @@ fn shifts_end(conflict: Conflict, terminals: usize) -> bool
     conflict.is_shift() && conflict.token as usize == terminals
 }
 
-// The example of the action's side that is shown, if there is one, at the front of its buffer.
+// The example of the action's side that is shown, if there is one, at the front of its buffer. The buffers are lent here and below, and may be longer than an example: their length is asked at the entry (refusal 11).
 fn show(case: TableConflict, side: KeptSide, shown: Option<usize>, buffer: &mut [u16])
     requires side_kept { (xs : List Example) × (SideKept (meaning case.given.table.words.now) (is_shift case.conflict) (action_made (meaning case.given.table.words.now) case.conflict) xs side.kept.now side.prints.now × ShownFits (length xs) «shown») }
     requires example_room_in_bounds { example_room ≤ length buffer.old }
@@ -59,7 +59,7 @@ fn show(case: TableConflict, side: KeptSide, shown: Option<usize>, buffer: &mut 
     }
 }
 
-// The class from both sides: either empty is naive, and writes nothing; else both are put in order and judged, and the examples shown are made again. The buffers are lent here and below, and may be longer than an example: their length is asked at the entry (refusal 11).
+// The class from both sides: either empty is naive, and writes nothing; else both are put in order and judged, and the examples shown are made again. (Counts stand beside the sides: a refusal leaves what is kept behind its count, so that they are no field, as crate outline says.)
 fn classify_kept(
     case: TableConflict,
     actions: KeptSide,

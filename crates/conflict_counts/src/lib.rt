@@ -58,7 +58,7 @@ fn shift_one(grammar: Grammar, place: usize, tokens: TokenSet, set: TokenSet) ->
     }
 }
 
-// The terminals that the state shifts.
+// The terminals that the state shifts. (No `fold`: that a place is below those of the grammar is known of the loop, and a closure would have to ask it.)
 pub fn shift_set(grammar: Grammar, state: &[u64; Item::LIMIT]) -> TokenSet
     requires flat { Flat state.now }
     ensures { (T : Table) (terminals : ℕ) (sets : List ℕ) → OfTable T grammar.entry.words.now grammar.entry.productions terminals sets → Shifted T (take (index_limit * grammar.entry.productions) state.now) result.0 }

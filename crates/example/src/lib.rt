@@ -253,7 +253,7 @@ impl<'a> Labels<'a> {
         }
     }
 
-    // Writes the reductions, innermost first: of `places` symbols, each starts after the prefixes of the labels around it and ends before their suffixes.
+    // Writes the reductions, innermost first: of `places` symbols, each starts after the prefixes of the labels around it and ends before their suffixes. (Three numbers go on from label to label; a place made of the label's number would be no plainer beside the two that cannot.)
     fn write_reductions(self, places: usize, buffer: &mut [u16], at: usize)
         requires places_value { places ≡ length (symbols (productions_in self.grammar.words.now self.grammar.productions) (labels_in self.words.now)) × (places ≤ example_symbols) }
         requires labels_in_bounds { at + reduction_room * length (labels_in self.words.now) ≤ length buffer.old }

@@ -57,6 +57,7 @@ impl From<Halt> for Refusal {
 
 // Here and in the crates above that take states, what is given, the words, where states begin and the kernel stand beside each other. Tried as one struct: with the kernel in it a field would be lent to be changed
 // while another is lent, or its words copied at each goto; without it every step is proved, and the call in crate builder is not covered, where the grammar, its sets and the words are lent at lifetimes of their own.
+// They are slices, of which each function asks the length: a longer one serves too, and an array type would ask more of callers.
 // One state more, by its items flat, stored behind the others if it has room; without it nothing changes.
 pub fn append(
     items: &[u64],

@@ -148,7 +148,7 @@ impl<'a> Over<'a> {
     }
 }
 
-// A fresh listing starts from the words of no edge, whatever the words hold.
+// A fresh listing starts from the words of no edge, whatever the words hold. (How long the words are is asked here and below: they are the scratch that C lends, and may be longer.)
 fn begin(words: &mut [u16], count: u32)
     requires { scratch_words ≤ length words.old }
     ensures { words.new ≡ begun count words.old }

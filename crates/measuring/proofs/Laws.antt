@@ -186,12 +186,12 @@ module _ (kept : KeptStates) (sizes : Sizes) (es : List ℕ) (s : Complete kept 
 
     pub edges_pass : sizes.limit < r → MeasuredAs s.T s.room words s.all.Rs (rows_in s.E es n) (Err Records)
     unfolding MeasuredAs finish
-    edges_pass h = rw (limited true (lt-ltb sizes.limit r h), finish) refl
+    edges_pass h = (refl, rw (limited true (lt-ltb sizes.limit r h), finish) refl)
 
     module _ (low : r ≤ sizes.limit) (c : ℕ) (many : c ≡ sum (λ (S : List ℕ). length (clashes s.T S)) s.all.Rs) where
       pub conflicts_pass : words < 5 * c → MeasuredAs s.T s.room words s.all.Rs (rows_in s.E es n) (Err Records)
       unfolding MeasuredAs finish
-      conflicts_pass h = rw (limited false (le-ltb sizes.limit r low), ← many, lt-ltb words (5 * c) h, finish) refl
+      conflicts_pass h = (refl, rw (limited false (le-ltb sizes.limit r low), ← many, lt-ltb words (5 * c) h, finish) refl)
 
       pub measured : 5 * c ≤ words → c ≤ 135266304 → MeasuredAs s.T s.room words s.all.Rs (rows_in s.E es n) (Ok (record { records = r; conflicts = c }))
       unfolding MeasuredAs finish

@@ -12,7 +12,7 @@ use Rattle.measuring.specs.declared.Measured.{Measured}
 use Rattle.finding.specs.declared.Halt.{Halt}
 use Rattle.finding.specs.declared.Sizes.{Sizes}
 use Rattle.measuring.specs.declared.KeptStates.{KeptStates}
-use Rattle.finding.specs.Search.{refusal_of}
+use Rattle.finding.specs.declared.Halt.TheVariants.{Records}
 
 -- the states are those of some table
 pub record Collection (kept : KeptStates) : Type 0 where
@@ -56,6 +56,6 @@ collection kept sizes es s = record {
 
 -- refusal 17 for the edges or the conflicts, else how many records and conflicts there are, which 32 bits hold
 unfoldable pub MeasuredAs : Table → ℕ → ℕ → List (List ℕ) → List (List Edge) → Result Measured Halt → Type 0
-MeasuredAs T room words Rs ds (Err h) = finish T room words (built Rs ds) ≡ refused (refusal_of h)
+MeasuredAs T room words Rs ds (Err h) = (h ≡ Records) × (finish T room words (built Rs ds) ≡ refused 17)
 MeasuredAs T room words Rs ds (Ok m) =
     (finish T room words (built Rs ds) ≡ full Rs ds) × (m.records ≡ records T Rs + sum (λ (es : List Edge). length es) ds) × (m.conflicts ≡ sum (λ (S : List ℕ). length (clashes T S)) Rs) × (m.conflicts ≤ 135266304)

@@ -217,7 +217,7 @@ impl<'a> Side<'a> {
     }
 }
 
-// What is kept of a side's examples, as it is read.
+// What is kept of a side's examples, as it is read: a type beside `Side`, since what is lent for writing cannot be copied into `SortedSide` and handed on by value.
 #[derive(Clone, Copy)]
 pub struct KeptSide<'a> {
     pub kept: &'a [u16],

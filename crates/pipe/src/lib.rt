@@ -53,6 +53,7 @@ impl From<Failed> for Stop {
     }
 }
 
+// Two, as `?` takes one step: what reads and what writes fail by errors of their own.
 impl From<Cut> for Stop {
     ghost use Rattle.pipe.specs.declared.Stop.TheVariants.{Failed as Said};
 

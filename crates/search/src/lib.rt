@@ -44,6 +44,7 @@ impl Searched {
 }
 
 // Writes the labels of a trial, three words each, by the places at which `Labels` reads them (a copy of an array is no plainer); answers how many words.
+// `tried` here and below is of a graph that no argument has: a struct would hold it truncated, and the proof of each function would open it again, which is no plainer.
 pub fn write_labels(edges: EdgeLabels, words: &[u16], labels: &mut [u16]) -> usize
     requires tried { (ps : List Production) × ((es : List TraceEdge) × Tried ps es edges.owners.now edges.codes.now words.now) }
     requires labels_room_in_bounds { labels_room ≤ length labels.old }
@@ -63,7 +64,6 @@ pub fn write_labels(edges: EdgeLabels, words: &[u16], labels: &mut [u16]) -> usi
 }
 
 // The labels of the trial that the words hold, written into the words lent for them: of each edge the nonterminal that it comes from and the item of its label; the edge into the start item first.
-// `tried` here and below is of a graph that no argument has: a struct would hold it truncated, and the proof of each function would open it again, which is no plainer.
 pub fn read_labels<'a>(
     grammar: Grammar<'a>,
     edges: EdgeLabels,

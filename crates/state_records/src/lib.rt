@@ -52,7 +52,7 @@ fn write_state_items(words: &[u16], from: usize, past: usize, items: usize, out:
     }
 }
 
-// The items of all states, from record `items` on.
+// The items of all states, from record `items` on. (Edges below are written alike: one function of both would take as closures where a state's begin and what its records are made of, with all that these ask.)
 pub fn write_items(words: &[u16], begins: &Begins, items: usize, out: &mut [u16])
     requires { (U : Table) × ((begins.now.states ≡ length U.states) × ((items ≡ items_place U) × (ItemsIn U words.now begins.now.items × Room U out.old))) }
     ensures { (U : Table) → begins.now.states ≡ length U.states → items ≡ items_place U → ItemsIn U words.now begins.now.items → Room U out.old → Grown U out.old out.new (items_place U) (edges_at U) }

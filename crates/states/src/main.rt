@@ -36,7 +36,6 @@ fn write_states<R: io::Input + Print + Eprint>(
     bytes: &mut [u8; BYTES],
 ) -> Result<(), Failed>
     requires table_len { length table.now ≤ record_limit * 4 }
-    requires conflicts_len { length conflicts.now ≤ 65535 * 5 }
 {
     write_records(rt, table, bytes)?;
     write_words(rt, conflicts, bytes)?;

@@ -102,7 +102,7 @@ fn move_one(
     }
 }
 
-// The items number `from` up to `past` that have their cursor at the symbol, moved over it, at the front of the kernel's words; how many they are. Here and in kept_states by number and not as a slice of their words: what is known of the states found speaks of items by number.
+// The items number `from` up to `past` that have their cursor at the symbol, moved over it, at the front of the kernel's words; how many they are (here and at one of them, and no struct of both, which would be of a fixed size and ask more of callers than words enough). Here and in kept_states by number and not as a slice of their words: what is known of the states found speaks of items by number.
 pub fn move_over(
     grammar: Grammar,
     words: &[u16],

@@ -82,7 +82,7 @@ impl<'a> Surveyed<'a> {
         self.productions().against(r, word(self.words, r, k))
     }
 
-    // The same of an index of loose records.
+    // The same of an index of loose records. (Two names for the two areas, which this crate promises.)
     pub fn bad_loose_index(self, r: usize, k: usize) -> bool
         requires { (r < self.areas.records) × (k < 4) }
         ensures { result ≡ against (loose_records self.entry.words.now) r (word_at self.entry.words.now r k) }

@@ -167,7 +167,7 @@ impl<'a> Words<'a> {
     }
 }
 
-// The ids of a text while they are entered: the text, the words, and how many there are so far. (No `SymbolTable` yet: what that holds of them is true when all ids are entered.)
+// The ids of a text while they are entered: the text, the words, and how many there are so far. (No `IdTable` yet, whose fields these are: between a name placed and its number counted the words hold one more than the counts say.)
 #[derive(Drop)]
 struct Entering<'a> {
     text: &'a [u8],

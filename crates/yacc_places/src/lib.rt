@@ -67,7 +67,7 @@ fn write_place(places: &mut [u16], n: usize, number: Option<u16>, from: usize) -
     }
 }
 
-// The places of a text whose ids are entered: for each nonterminal by number the first byte of its first left side, then for each terminal by number that of the occurrence that numbered it.
+// The places of a text whose ids are entered: for each nonterminal by number the first byte of its first left side, then for each terminal by number that of the occurrence that numbered it. (That the text is short is asked here and in the two crates above: as a field of `SymbolTable` it would be asked of those who look a name up, too.)
 pub fn write_places(symbols: &SymbolTable, places: &mut [u16])
     requires short { length symbols.now.ids.text.now ≤ text_limit }
     requires room { symbols.now.ids.counts.nonterminals + symbols.now.ids.counts.terminals ≤ length places.old }

@@ -118,7 +118,7 @@ impl Room {
         }
     }
 
-    // The ids of a text of the grammar, entered. (`read_yacc` and `misnamed_at` test what is asked of the text here and in the two functions that call this: a type for a tested text would serve these alone.)
+    // The ids of a text of the grammar, entered. (`read_yacc` and `misnamed_at` test what is asked of the text here and below; that it is short is no field of the table, as crate yacc_places says.)
     fn enter<'a>(&'a mut self, text: &'a [u8]) -> SymbolTable<'a>
         requires fresh { IsFresh self.old }
         requires text { (length text.now ≤ text_limit) × (is_grammar_text text.now ≡ true) }
