@@ -8,7 +8,6 @@ ghost use Rattle.repr.specs.Sizes.{nonterminal_limit, terminal_limit, production
 ghost use Rattle.repr.specs.Lists.{some?};
 ghost use Rattle.repr.specs.Meaning.{nonterminal, is_same_symbol, Table};
 ghost use Rattle.repr.specs.Listed.{listed, list_is_fit};
-ghost use Rattle.repr.specs.Symbols.{meant};
 ghost use Rattle.repr.specs.Packed.{Packed, productions_in};
 ghost use Rattle.table.specs.Decoded.{meaning};
 ghost use Rattle.grammar_records.specs.Target.{PackedAs, owned_from};

@@ -4,11 +4,11 @@
 
 #![tactic(auto)]
 
-ghost use Rattle.std.specs.Prelude.{◌≡◌, ℕ, ◌+◌, ◌*◌, ◌<◌, ◌≤◌, List, ◌++◌, length, take, drop};
+ghost use Rattle.std.specs.Prelude.{◌≡◌, ◌+◌, ◌*◌, ◌<◌, ◌≤◌, ◌++◌, length, take, drop};
 ghost use Rattle.repr.specs.Sizes.{index_limit, item_limit};
 ghost use Rattle.repr.specs.Lists.{below};
 ghost use Rattle.repr.specs.Meaning.{Table};
-ghost use Rattle.repr.specs.Packed.{Packed, production_in};
+ghost use Rattle.repr.specs.Packed.{production_in};
 ghost use Rattle.build.specs.States.{closure};
 ghost use Rattle.build.specs.Aheads.{aheads};
 ghost use Rattle.closing.specs.Grammar.{OfTable, Held};

@@ -2,7 +2,7 @@
 
 #![tactic(auto)]
 
-ghost use Rattle.std.specs.Prelude.{true, List, ◌≡◌, ℕ, ◌+◌, ◌*◌, ◌≤◌, ◌<◌, length, get_or, replicate};
+ghost use Rattle.std.specs.Prelude.{true, ◌≡◌, ℕ, ◌+◌, ◌*◌, ◌≤◌, ◌<◌, length, get_or, replicate};
 ghost use Rattle.repr.specs.Sizes.{record_limit};
 ghost use Rattle.repr.specs.Reply.{reply_of};
 ghost use Rattle.table.specs.Words.{word_at, records, loose};
@@ -10,9 +10,9 @@ ghost use Rattle.table.specs.Checked.{Accepted};
 ghost use Rattle.table.specs.Refusals.{check_of};
 ghost use Rattle.table.specs.Quads.{put_quad};
 ghost use Rattle.table_check.specs.Known.{AreasOf};
-ghost use Rattle.compaction.specs.Compaction.{reached, moved, count_of, compacted};
+ghost use Rattle.compaction.specs.Compaction.{reached, count_of, compacted};
 ghost use Rattle.compaction.specs.Outcome.{compact_of};
-ghost use Rattle.compaction.specs.Passes.{Headed, HeadsMarked, Numbering, Numbers, Numbered, Closing, Followed, Freed};
+ghost use Rattle.compaction.specs.Passes.{Headed, HeadsMarked, Numbers, Numbered, Closing, Followed, Freed};
 
 use repr::Refusal;
 use table::{AcceptedTable, RECORD_WORDS, RECORDS, put, word};

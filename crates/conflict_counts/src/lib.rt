@@ -7,7 +7,6 @@ ghost use Rattle.std.specs.Prelude.{◌≡◌, ℕ, ◌+◌, ◌-◌, ◌*◌, �
 ghost use Rattle.repr.specs.Sizes.{index_limit, production_limit};
 ghost use Rattle.repr.specs.Meaning.{Table};
 ghost use Rattle.repr.specs.Lists.{up_from, below, joined};
-ghost use Rattle.repr.specs.Packed.{Packed};
 ghost use Rattle.lookahead.specs.Tokens.{has, meet};
 ghost use Rattle.build.specs.States.{reduces, clashes};
 ghost use Rattle.closing.specs.Grammar.{OfTable};

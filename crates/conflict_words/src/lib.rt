@@ -3,7 +3,7 @@
 #![tactic(auto)]
 
 ghost use Rattle.std.specs.Prelude.{◌≡◌, ℕ, ◌+◌, ◌-◌, ◌*◌, ◌<◌, ◌≤◌, List, length, take};
-ghost use Rattle.repr.specs.Sizes.{index_limit, production_limit, state_limit};
+ghost use Rattle.repr.specs.Sizes.{index_limit, state_limit};
 ghost use Rattle.repr.specs.Lists.{up_from, below, joined};
 ghost use Rattle.repr.specs.Meaning.{Table};
 ghost use Rattle.lookahead.specs.Tokens.{members};

@@ -6,7 +6,7 @@
 // arrays of a trace hold. t0 leads from each state to the next, t1 from all to the last.
 #![tactic(auto)]
 
-ghost use Rattle.std.specs.Prelude.{◌≡◌, ◌+◌, ◌*◌, ◌≤◌, ◌<◌, length};
+ghost use Rattle.std.specs.Prelude.{◌≡◌, ◌+◌, ◌*◌, ◌≤◌, ◌<◌};
 
 use lr1::{backtrace_reduce, backtrace_shift};
 use repr::{ProductionIndex, Refusal};

@@ -2,7 +2,7 @@
 
 #![tactic(auto)]
 
-ghost use Rattle.std.specs.Prelude.{◌≡◌, true, not, ◌++◌, ◌≤◌, ◌<◌, length};
+ghost use Rattle.std.specs.Prelude.{◌≡◌, true, not, ◌++◌, ◌≤◌, ◌<◌};
 ghost use Rattle.repr.specs.Sizes.{nonterminal_limit, terminal_limit};
 ghost use Rattle.slices.specs.Same.{same_words};
 ghost use Rattle.repr.specs.Listed.{listed, list_is_fit};

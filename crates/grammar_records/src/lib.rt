@@ -6,7 +6,7 @@ ghost use Rattle.std.specs.Prelude.{◌≡◌, true, map, ◌+◌, ◌≤◌, �
 ghost use Rattle.repr.specs.Sizes.{record_limit, nonterminal_limit, terminal_limit};
 ghost use Rattle.repr.specs.Listed.{listed, list_is_fit};
 ghost use Rattle.repr.specs.Meaning.{Table, Production};
-ghost use Rattle.repr.specs.Packed.{Packed, productions_in};
+ghost use Rattle.repr.specs.Packed.{productions_in};
 ghost use Rattle.spelling.specs.Spelled.{chain_from, symbol_quad, quads, size_of, states_at, productions_at, symbols_at, items_place, next_owned_from};
 ghost use Rattle.spelling.specs.Grown.{Grown, Room, Stands};
 ghost use Rattle.grammar_records.specs.Target.{Target, PackedAs, owned_from};

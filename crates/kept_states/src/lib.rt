@@ -2,9 +2,9 @@
 
 #![tactic(auto)]
 
-ghost use Rattle.std.specs.Prelude.{◌≡◌, ℕ, suc, ◌+◌, ◌-◌, ◌*◌, ◌/◌, ◌^◌, ◌<◌, ◌≤◌, List, MatchOption, length, take, slice_index};
+ghost use Rattle.std.specs.Prelude.{◌≡◌, ℕ, suc, ◌+◌, ◌-◌, ◌*◌, ◌/◌, ◌^◌, ◌<◌, ◌≤◌, MatchOption, length, slice_index};
 ghost use Rattle.repr.specs.Sizes.{item_limit, record_limit, state_limit};
-ghost use Rattle.stored.specs.Stored.{entry_at, entries, put_entry, packed};
+ghost use Rattle.stored.specs.Stored.{entry_at, entries, packed};
 ghost use Rattle.kept_states.specs.Kept.{unpacked, put_all, states_in, Begun, kernel_place};
 
 use lr1_core::Item;

@@ -2,10 +2,10 @@
 #![tactic(auto)]
 
 ghost use Rattle.std.specs.Prelude.{◌≡◌, ◌++◌, ◌∷◌, [], ◌+◌, ◌*◌, ◌≤◌, ◌<◌, length, get_or, take, drop};
-ghost use Rattle.repr.specs.Sizes.{reduction_limit, example_symbols, reduction_room};
+ghost use Rattle.repr.specs.Sizes.{example_symbols, reduction_room};
 ghost use Rattle.numerals.specs.Numeral.{numeral};
 ghost use Rattle.error.specs.Numbers.{number_of_class, values_of_class, reading_of};
-ghost use Rattle.lines.specs.Lines.{Put, Whole, Shown, ReadingShown, symbol_text, reduction_text, symbol_texts, reduction_texts, counted, total_of_symbols, printed_length, example_line, own_text, refused_text, line_of_refusal, class_line, example_lines, lines_of};
+ghost use Rattle.lines.specs.Lines.{Put, Whole, Shown, ReadingShown, symbol_text, reduction_text, symbol_texts, reduction_texts, total_of_symbols, printed_length, example_line, own_text, line_of_refusal, class_line, example_lines, lines_of};
 
 use error::{Class, Classification};
 use example::Example;

@@ -3,8 +3,8 @@
 
 #![tactic(auto)]
 
-ghost use Rattle.std.specs.Prelude.{◌≡◌, Bool, true, false, ◌&&◌, ◌||◌, not, List, [], ◌∷◌, ℕ, suc, ◌^◌, ◌≤◌, ◌<◌, length, eqb, ltb};
-ghost use Rattle.lookahead.specs.Tokens.{has, single, union, meet, without, with, members, up_to};
+ghost use Rattle.std.specs.Prelude.{◌≡◌, true, false, ◌&&◌, ◌||◌, not, [], ◌∷◌, ℕ, suc, ◌^◌, ◌≤◌, ◌<◌, length, eqb, ltb};
+ghost use Rattle.lookahead.specs.Tokens.{has, union, meet, without, with, members, up_to};
 ghost use Rattle.std.specs.Iterator.{YieldsFirst, item_count};
 
 use repr::Symbol;

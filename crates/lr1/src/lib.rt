@@ -7,7 +7,7 @@ ghost use Rattle.std.specs.Prelude.{◌≡◌, ◌++◌, IfOk};
 ghost use Rattle.first.specs.First.{sets_of_first};
 ghost use Rattle.table.specs.Decoded.{meaning};
 ghost use Rattle.repr.specs.Reply.{reply_of};
-ghost use Rattle.table.specs.Checked.{Accepted, checked_of};
+ghost use Rattle.table.specs.Checked.{checked_of};
 ghost use Rattle.table.specs.Refusals.{check_of};
 ghost use Rattle.spelling.specs.Outcome.{respell_of};
 ghost use Rattle.compaction.specs.Outcome.{compact_of};

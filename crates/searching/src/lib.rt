@@ -2,8 +2,8 @@
 
 #![tactic(auto)]
 
-ghost use Rattle.std.specs.Prelude.{◌≡◌, List, ℕ, suc, ◌+◌, ◌*◌, ◌≤◌, ◌<◌, length, get_or};
-ghost use Rattle.repr.specs.Sizes.{item_limit, record_limit, state_limit};
+ghost use Rattle.std.specs.Prelude.{◌≡◌, ◌+◌, ◌*◌, ◌≤◌, ◌<◌, length, get_or};
+ghost use Rattle.repr.specs.Sizes.{item_limit, record_limit};
 ghost use Rattle.finding.specs.Steps.{found_to};
 ghost use Rattle.collecting.specs.Rows.{FoundAs};
 ghost use Rattle.searching.specs.Ready.{Ready};

@@ -2,12 +2,10 @@
 
 #![tactic(auto)]
 
-ghost use Rattle.std.specs.Prelude.{◌≡◌, List, [], ◌∷◌, ℕ, suc, ◌+◌, ◌*◌, ◌≤◌, ◌<◌, min, length, get_or};
+ghost use Rattle.std.specs.Prelude.{◌≡◌, [], ◌∷◌, suc, ◌+◌, ◌*◌, ◌≤◌, ◌<◌, min, length};
 ghost use Rattle.repr.specs.Sizes.{record_limit};
 ghost use Rattle.repr.specs.Reply.{reply_of};
 ghost use Rattle.table.specs.Decoded.{meaning};
-ghost use Rattle.table.specs.Checked.{Accepted};
-ghost use Rattle.table.specs.Refusals.{check_of};
 ghost use Rattle.spelling.specs.Spelled.{chain_from, chains_from, size_of, states_at, productions_at, symbols_at, items_place, edges_at, records_of, quads};
 ghost use Rattle.table_check.specs.Known.{AreasOf};
 ghost use Rattle.spelling.specs.Grown.{Grown, Room, Stands, records_from, same_quad, LooseIndex, chains_of, Heads, SizesOf};

@@ -2,8 +2,8 @@
 
 #![tactic(auto)]
 
-ghost use Rattle.std.specs.Prelude.{◌≡◌, true, false, List, ℕ, suc, MatchResult, ◌+◌, ◌*◌, ◌≤◌, ◌<◌, length, get_or};
-ghost use Rattle.repr.specs.Sizes.{record_limit, state_limit};
+ghost use Rattle.std.specs.Prelude.{◌≡◌, true, false, ℕ, MatchResult, ◌+◌, ◌*◌, ◌≤◌, ◌<◌, length, get_or};
+ghost use Rattle.repr.specs.Sizes.{record_limit};
 ghost use Rattle.repr.specs.Meaning.{Table};
 ghost use Rattle.closing.specs.Grammar.{OfTable, Held};
 ghost use Rattle.starting.specs.Start.{Counted, Started};

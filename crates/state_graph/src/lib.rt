@@ -2,16 +2,11 @@
 
 #![tactic(auto)]
 
-ghost use Rattle.std.specs.Prelude.{MatchOption, ◌≡◌, Bool, true, false, ◌&&◌, ◌||◌, List, ◌++◌, ℕ, ◌+◌, ◌*◌, ◌≤◌, ◌<◌, eqb, ltb, length, get_or, set, replicate};
+ghost use Rattle.std.specs.Prelude.{MatchOption, ◌≡◌, true, false, ◌&&◌, ◌||◌, ◌++◌, ℕ, ◌+◌, ◌*◌, ◌≤◌, ◌<◌, eqb, ltb, length, set, replicate};
 ghost use Rattle.repr.specs.Sizes.{record_limit};
-ghost use Rattle.repr.specs.Lists.{some?};
 ghost use Rattle.repr.specs.Listed.{symbol_of_kind, symbol_is_fit, listed, list_is_fit};
 ghost use Rattle.table.specs.Words.{records};
-ghost use Rattle.table.specs.Quads.{put_quad};
-ghost use Rattle.table.specs.Decoded.{meaning, edges_from};
-ghost use Rattle.table.specs.Index.{EdgeIndex};
-ghost use Rattle.table.specs.Checked.{Accepted};
-ghost use Rattle.table.specs.Refusals.{check_of};
+ghost use Rattle.table.specs.Decoded.{meaning};
 ghost use Rattle.std.specs.Iterator.{YieldsFirstBy, item_count};
 ghost use Rattle.state_graph.specs.Walk.{leads, predecessors, walked_back, traced_back};
 ghost use Rattle.state_graph.specs.States.{has_state, states_in};

@@ -1,5 +1,5 @@
 // How many symbols each production has, as far as seventeen: one too many.
-ghost use Rattle.std.specs.Prelude.{◌≡◌, ℕ, ◌<◌, min, length};
+ghost use Rattle.std.specs.Prelude.{◌≡◌, ◌<◌, min, length};
 ghost use Rattle.repr.specs.Sizes.{index_limit};
 ghost use Rattle.table.specs.Words.{word_at};
 ghost use Rattle.table.specs.Decoded.{symbol_chain};

@@ -1,5 +1,5 @@
 // The lowest of rows 3 to 8 against which one record offends, by what the record is.
-ghost use Rattle.std.specs.Prelude.{Bool, false, ◌≡◌, ℕ, ◌<◌, ◌≤◌};
+ghost use Rattle.std.specs.Prelude.{false, ◌≡◌, ◌<◌, ◌≤◌};
 ghost use Rattle.table_check.specs.Rows.{number_of_fault};
 ghost use Rattle.table_check.specs.Faults.{fault_at, index_bad, fault_of_nonterminal, fault_of_state, fault_of_production, fault_of_loose};
 

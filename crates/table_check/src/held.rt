@@ -1,5 +1,5 @@
 // How many of the nonterminals' chains hold each production, as far as two.
-ghost use Rattle.std.specs.Prelude.{◌≡◌, ℕ, ◌+◌, ◌<◌, length, replicate};
+ghost use Rattle.std.specs.Prelude.{◌≡◌, ◌+◌, ◌<◌, replicate};
 ghost use Rattle.table.specs.Words.{production_area, word_at};
 ghost use Rattle.table.specs.Decoded.{production_chain};
 ghost use Rattle.table_check.specs.Marks.{Held};

@@ -11,7 +11,7 @@ mod loose;
 pub mod mark;
 mod scan;
 
-ghost use Rattle.std.specs.Prelude.{List, [], ◌∷◌, ◌≡◌, ◌≤◌, ◌*◌, IfOk, replicate};
+ghost use Rattle.std.specs.Prelude.{[], ◌∷◌, ◌≡◌, ◌≤◌, ◌*◌, IfOk, replicate};
 ghost use Rattle.table.specs.Words.{records};
 ghost use Rattle.table.specs.Checked.{checked_of};
 ghost use Rattle.table.specs.Refusals.{first_row, check_of};

@@ -1,5 +1,5 @@
 // Rows 6, 7 and 8 of a loose record, by what it is reached as.
-ghost use Rattle.std.specs.Prelude.{Bool, ◌&&◌, ◌||◌, ◌≡◌, ℕ, ◌<◌};
+ghost use Rattle.std.specs.Prelude.{◌&&◌, ◌||◌, ◌≡◌, ◌<◌};
 ghost use Rattle.table_check.specs.Faults.{symbol_bad, item_bad, range_bad, spare_bad};
 
 use crate::areas::Record;

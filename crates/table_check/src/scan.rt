@@ -1,5 +1,5 @@
 // One pass over the records: the lowest row so far, and the first record that offends against it. Loose records are marked on the way.
-ghost use Rattle.std.specs.Prelude.{◌≡◌, List, [], ◌∷◌, ℕ, ◌+◌, ◌≤◌, ◌<◌};
+ghost use Rattle.std.specs.Prelude.{◌≡◌, [], ◌∷◌, ℕ, ◌+◌, ◌≤◌, ◌<◌};
 ghost use Rattle.table.specs.Words.{records, loose};
 ghost use Rattle.table.specs.Checked.{checked_of};
 ghost use Rattle.table.specs.Refusals.{first_row};

@@ -2,7 +2,7 @@
 
 #![tactic(auto)]
 
-ghost use Rattle.std.specs.Prelude.{◌≡◌, List, [], ℕ, ◌+◌, ◌*◌, ◌≤◌, ◌<◌, length, get_or, set};
+ghost use Rattle.std.specs.Prelude.{◌≡◌, [], ℕ, ◌+◌, ◌*◌, ◌≤◌, ◌<◌, length, get_or, set};
 ghost use Rattle.repr.specs.Sizes.{item_limit, state_limit};
 ghost use Rattle.repr.specs.Symbols.{meant, IsInRange};
 ghost use Rattle.lr1_core.specs.Cursor.{symbol_code};

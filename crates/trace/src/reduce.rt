@@ -1,9 +1,9 @@
 // Which items have a nullable suffix, asked once for all of a trace (lr1/trace/reduce, part 5 of document 01).
-ghost use Rattle.std.specs.Prelude.{◌≡◌, ℕ, ◌+◌, ◌*◌, ◌<◌, ◌≤◌, length, replicate};
+ghost use Rattle.std.specs.Prelude.{◌≡◌, ◌+◌, ◌*◌, ◌<◌, ◌≤◌, length};
 ghost use Rattle.repr.specs.Sizes.{index_limit, item_flags};
 ghost use Rattle.repr.specs.Meaning as meaning-of;
 ghost use Rattle.repr.specs.Listed.{listed};
-ghost use Rattle.repr.specs.Packed.{Packed, symbol_words, productions_in};
+ghost use Rattle.repr.specs.Packed.{symbol_words, productions_in};
 ghost use Rattle.first.specs.First.{sets_of_first, nullable};
 ghost use Rattle.trace.specs.Traced.{suffix_of};
 ghost use Rattle.trace.specs.Edges.{item_at};

@@ -3,10 +3,9 @@
 #![tactic(auto)]
 
 ghost use Rattle.std.specs.Prelude.{false, ◌≡◌, ◌+◌, ◌≤◌, ◌<◌, [], ◌∷◌, length};
-ghost use Rattle.repr.specs.Lists.{occurrences};
 ghost use Rattle.yacc_text.specs.Grammar.{is_white_byte, is_letter_byte, is_digit_byte, kind_of};
 ghost use Rattle.yacc_tokens.specs.Accepted.{mode_of};
-ghost use Rattle.yacc_stray.specs.Stray.{IsStray, line_of, column_behind, column_of};
+ghost use Rattle.yacc_stray.specs.Stray.{IsStray, line_of, column_of};
 ghost use Rattle.yacc_stray.specs.Automaton.{lost, signs, marks, step_kind, step_signed, step_word, step_inside, step_part};
 ghost use Rattle.yacc_stray.specs.Numbers.{part_of, Stands};
 
