@@ -31,6 +31,6 @@ weak() { # WHAT BASE, whose BASE was before
 }
 
 put crates/outline/specs/Outline.antt "symbol_code kind number = 64 * kind + number + 1" "symbol_code kind number = 0 * kind + 0 + 1"
-put crates/outline/src/lib.rt "(64 * kind + number + 1)" "(0 * kind + 0 + 1)"
+put crates/outline/src/lib.rt "(Outline::KIND * kind + number + 1)" "(0 * kind + 0 + 1)"
 weak "all equal" 0 25173
 weak "equal where cursor and number of places add up alike" 1 0
