@@ -6,3 +6,4 @@ pub mod Writing
 pub mod Views
 pub mod KindLaws
 pub mod Answered
+pub mod Lent

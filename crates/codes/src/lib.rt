@@ -2,7 +2,7 @@
 
 #![tactic(auto)]
 
-ghost use Rattle.std.specs.Prelude.{OnOk, OnErr, ◌≡◌, ℕ, ◌+◌, ◌*◌, ◌/◌, ◌%◌, ◌<◌, ◌≤◌, true, List, [], ◌++◌, length, drop, slice_index};
+ghost use Rattle.std.specs.Prelude.{OnOk, OnErr, ◌≡◌, ℕ, ◌+◌, ◌*◌, ◌/◌, ◌%◌, ◌<◌, ◌≤◌, true, List, [], ◌++◌, length, drop, get_or, slice_index};
 ghost use Rattle.repr.specs.Sizes.{production_limit, index_limit, item_limit, edge_limit, edge_place, graph_room};
 ghost use Rattle.repr.specs.Lists.{some?};
 ghost use Rattle.repr.specs.Meaning as meaning-of;
@@ -13,9 +13,10 @@ ghost use Rattle.trace_graph.specs.Graph as graph-of;
 ghost use Rattle.trace_graph.specs.Words.{edge_words, graph_words};
 ghost use Rattle.trace_graph.specs.Values.{SmallEdge, value_words};
 ghost use Rattle.trace.specs.Sound.{EdgeSound};
+ghost use Rattle.bits.specs.Bits.{bit_at};
 ghost use Rattle.codes.specs.Codes.{code_limit, item_code, code_of, is_same_production, least_alike, key_by, key_of};
 ghost use Rattle.codes.specs.Kinds.{kind_number, IsCodeOf};
-ghost use Rattle.codes.specs.Coded.{Coded, Leasts, SmallLeasts};
+ghost use Rattle.codes.specs.Coded.{codes_room, key_words, Coded, Leasts, SmallLeasts};
 ghost use Rattle.codes.specs.Carried.{Decodes, Carried};
 
 use bits::{is_set, put};
@@ -108,59 +109,78 @@ impl EdgeCode {
 }
 
 // A trace's edges, one word each behind their number, and a bit for each key that one of them has.
-// Fixed words and how many are used, since there is no heap. The count stands in front of them, as in a graph's words, so that definitions are over one list.
+// Words that are lent, since there is no heap, and how many are used in front of them, as in a graph's words, so that definitions are over one list.
 #[derive(Drop)]
-pub struct EdgeCodes {
-    pub words: [u16; EdgeCodes::WORDS],
-    pub flags: [u64; EdgeCodes::KEY_WORDS],
+pub struct EdgeCodes<'a> {
+    pub words: &'a mut [u16],
+    pub flags: &'a mut [u64],
+    pub ghost room: { (length words.now ≡ codes_room) × (length flags.now ≡ key_words) },
 }
 
-impl EdgeCodes {
+impl<'a> EdgeCodes<'a> {
+    ghost use Rattle.codes.specs.Lent.{SameWords};
+
     pub const WORDS: usize = 1 + TraceGraph::EDGES;
 
     pub const KEY_WORDS: usize = EdgeKind::COUNT * Item::FLAG_WORDS;
 
-    // No edges.
-    pub fn new() -> EdgeCodes
-        ensures { (T : meaning-of.Table) → Coded T result.words result.flags [] }
+    // Over the words lent.
+    pub fn of(words: &'a mut [u16], flags: &'a mut [u64]) -> EdgeCodes<'a>
+        requires { (length words.old ≡ codes_room) × (length flags.old ≡ key_words) }
+        ensures is { (result.words.now ≡ words.old) × (result.flags.now ≡ flags.old) }
+        ensures same { (result.words.ghost_name ≡ words.entry.ghost_name) × (result.flags.ghost_name ≡ flags.entry.ghost_name) }
     {
-        EdgeCodes {
-            words: [0u16; EdgeCodes::WORDS],
-            flags: [0u64; EdgeCodes::KEY_WORDS],
-        }
+        EdgeCodes { words, flags }
     }
 
-    // Takes all edges away.
+    // Takes all edges away, whatever the words hold.
     pub fn clear(&mut self)
-        ensures { (T : meaning-of.Table) → Coded T self.new.words self.new.flags [] }
+        ensures none { (T : meaning-of.Table) → Coded T self.new.words.now self.new.flags.now [] }
+        ensures same { SameWords self.old self.new }
     {
         let empty = TraceGraph::new();
         self.words[0] = empty.edges as u16;
         self.flags.fill(0);
     }
 
+    // Whether an edge has the key.
+    fn has(&self, key: usize) -> bool
+        requires { key < code_limit }
+        ensures { result ≡ bit_at self.now.flags.now key }
+    {
+        is_set(self.flags, key)
+    }
+
+    // How many there are.
+    fn count(&self) -> usize
+        ensures { result ≡ get_or self.now.words.now 0 0 }
+    {
+        word(self.words, 0)
+    }
+
     // Whether an equal edge is there.
     pub fn contains(&self, least: &[u8], edge: EdgeCode) -> bool
         requires { (edge.item.production < production_limit) × (edge.item.index < index_limit) × SmallLeasts least.now }
-        ensures { (T : meaning-of.Table) → meaning-of.TableFits T → Leasts T.productions least.now → edge.item.production < length T.productions → (ws : List ℕ) (es : List graph-of.TraceEdge) (e : graph-of.TraceEdge) → Coded T ws self.now.flags es → EdgeSound T e → IsCodeOf edge e → result ≡ some? (graph-of.is_same_edge T.productions e) es }
+        ensures { (T : meaning-of.Table) → meaning-of.TableFits T → Leasts T.productions least.now → edge.item.production < length T.productions → (ws : List ℕ) (es : List graph-of.TraceEdge) (e : graph-of.TraceEdge) → Coded T ws self.now.flags.now es → EdgeSound T e → IsCodeOf edge e → result ≡ some? (graph-of.is_same_edge T.productions e) es }
     {
-        is_set(&self.flags, edge.key(least))
+        self.has(edge.key(least))
     }
 
     // Adds an edge by its word and its key, unless an equal one is there; refusal 12 is one edge too many.
     pub fn insert_code(&mut self, code: usize, key: usize) -> Result<(), Full>
         requires { (code < code_limit) × (key < code_limit) }
-        ensures coded { OnOk result ((T : meaning-of.Table) → meaning-of.TableFits T → (es : List graph-of.TraceEdge) (e : graph-of.TraceEdge) → Coded T self.old.words self.old.flags es → EdgeSound T e → code ≡ code_of e → key ≡ key_of T.productions (code_of e) → Coded T self.new.words self.new.flags (graph-of.add T.productions e es)) }
-        ensures full { OnErr result ((T : meaning-of.Table) → meaning-of.TableFits T → (es : List graph-of.TraceEdge) (e : graph-of.TraceEdge) → Coded T self.old.words self.old.flags es → EdgeSound T e → code ≡ code_of e → key ≡ key_of T.productions (code_of e) → edge_limit < length (graph-of.add T.productions e es)) }
+        ensures coded { OnOk result ((T : meaning-of.Table) → meaning-of.TableFits T → (es : List graph-of.TraceEdge) (e : graph-of.TraceEdge) → Coded T self.old.words.now self.old.flags.now es → EdgeSound T e → code ≡ code_of e → key ≡ key_of T.productions (code_of e) → Coded T self.new.words.now self.new.flags.now (graph-of.add T.productions e es)) }
+        ensures full { OnErr result ((T : meaning-of.Table) → meaning-of.TableFits T → (es : List graph-of.TraceEdge) (e : graph-of.TraceEdge) → Coded T self.old.words.now self.old.flags.now es → EdgeSound T e → code ≡ code_of e → key ≡ key_of T.productions (code_of e) → edge_limit < length (graph-of.add T.productions e es)) }
+        ensures same { SameWords self.old self.new }
     {
-        if is_set(&self.flags, key) {
+        if self.has(key) {
             return Ok(());
         }
-        let count = word(&self.words, 0);
+        let count = self.count();
         if count >= TraceGraph::EDGES {
             return Err(Full);
         }
-        put(&mut self.flags, key);
+        put(self.flags, key);
         self.words[1 + count] = code as u16;
         self.words[0] = (count + 1) as u16;
         Ok(())
@@ -169,8 +189,9 @@ impl EdgeCodes {
     // The same of an edge, by the least equal productions.
     pub fn insert(&mut self, least: &[u8], edge: EdgeCode) -> Result<(), Full>
         requires { (edge.item.production < production_limit) × (edge.item.index < index_limit) × SmallLeasts least.now }
-        ensures coded { OnOk result ((T : meaning-of.Table) → meaning-of.TableFits T → Leasts T.productions least.now → edge.item.production < length T.productions → (es : List graph-of.TraceEdge) (e : graph-of.TraceEdge) → Coded T self.old.words self.old.flags es → EdgeSound T e → IsCodeOf edge e → Coded T self.new.words self.new.flags (graph-of.add T.productions e es)) }
-        ensures full { OnErr result ((T : meaning-of.Table) → meaning-of.TableFits T → Leasts T.productions least.now → edge.item.production < length T.productions → (es : List graph-of.TraceEdge) (e : graph-of.TraceEdge) → Coded T self.old.words self.old.flags es → EdgeSound T e → IsCodeOf edge e → edge_limit < length (graph-of.add T.productions e es)) }
+        ensures coded { OnOk result ((T : meaning-of.Table) → meaning-of.TableFits T → Leasts T.productions least.now → edge.item.production < length T.productions → (es : List graph-of.TraceEdge) (e : graph-of.TraceEdge) → Coded T self.old.words.now self.old.flags.now es → EdgeSound T e → IsCodeOf edge e → Coded T self.new.words.now self.new.flags.now (graph-of.add T.productions e es)) }
+        ensures full { OnErr result ((T : meaning-of.Table) → meaning-of.TableFits T → Leasts T.productions least.now → edge.item.production < length T.productions → (es : List graph-of.TraceEdge) (e : graph-of.TraceEdge) → Coded T self.old.words.now self.old.flags.now es → EdgeSound T e → IsCodeOf edge e → edge_limit < length (graph-of.add T.productions e es)) }
+        ensures same { SameWords self.old self.new }
     {
         self.insert_code(edge.word(), edge.key(least))
     }

@@ -1,9 +1,8 @@
 -- The ways through `open_view` and `list_item`: the trace's edges have a view, and their listing is that of error/specs/Sides. Assumes nothing.
-use Rattle.std.specs.Prelude.{Result, Err, ◌≡◌, ℕ, ◌-◌, ◌<◌, ◌≤◌, Bool, List, length, take, drop}
+use Rattle.std.specs.Prelude.{Result, Err, ◌≡◌, ℕ, ◌<◌, ◌≤◌, Bool, List, length, take, drop}
 use native.Mathlib.Omega.{arith}
 use mathlib.Core.Path.{subst, refl}
 use mathlib.Core.Option.{Option}
-use lib.ListN.{length-drop}
 use lib.Seq.{take_all}
 use Rattle.repr.specs.Sizes.{edge_limit, example_limit}
 use Rattle.repr.specs.Meaning.{Item}
@@ -48,12 +47,12 @@ module _ (t g : List ℕ) (productions terminals : ℕ) (sets least ends : List 
 
     -- the view that is searched has the words of the edges without their count
     pub listable_in : (owners words sources older latest : List ℕ) → Listable (meaning t).productions es owners (drop 1 words) sources older latest i
-        → Listable (productions_in g productions) es owners (take (length words - 1) (drop 1 words)) sources older latest i
-    listable_in owners words sources older latest L = let d = length-drop 1 words in rw (R.same, take_all (length words - 1) (drop 1 words) (omega arith)) L
+        → Listable (productions_in g productions) es owners (take edge_limit (drop 1 words)) sources older latest i
+    listable_in owners words sources older latest L = let d = L.labelled.by_code in rw (R.same, take_all edge_limit (drop 1 words) (omega arith)) L
 
     -- the same by a filter's productions and a view
     pub listable_view : (owners words sources older latest : List ℕ) → Listable (meaning t).productions es owners (drop 1 words) sources older latest i → (g' : List ℕ) (n' : ℕ) → (g' ≡ g) × (n' ≡ productions)
-        → (v : ViewOf) → (v.sources.bytes.now ≡ sources) × (v.older.now ≡ older) × (v.latest.now ≡ latest) × (v.labels.owners.now ≡ owners) → v.labels.codes.now ≡ take (length words - 1) (drop 1 words)
+        → (v : ViewOf) → (v.sources.bytes.now ≡ sources) × (v.older.now ≡ older) × (v.latest.now ≡ latest) × (v.labels.owners.now ≡ owners) → v.labels.codes.now ≡ take edge_limit (drop 1 words)
         → Listable (productions_in g' n') es v.labels.owners.now v.labels.codes.now v.sources.bytes.now v.older.now v.latest.now i
     listable_view owners words sources older latest L g' n' a v e c = rw (a.0, a.1, e.0, e.1, e.2, e.3, c) (listable_in owners words sources older latest L)
 

@@ -10,6 +10,7 @@ ghost use Rattle.repr.specs.Packed.{productions_in};
 ghost use Rattle.table.specs.Decoded.{meaning};
 ghost use Rattle.trace_graph.specs.Graph.{TraceEdge};
 ghost use Rattle.trace_graph.specs.Fits.{item_is_fit};
+ghost use Rattle.codes.specs.Coded.{codes_room};
 ghost use Rattle.tracer.specs.Built.{edges_by};
 ghost use Rattle.example.specs.Example.{example_words};
 ghost use Rattle.enumerator.specs.Lister.{labels_of};
@@ -28,8 +29,8 @@ ghost use Rattle.examples.specs.Gathers.{ListedOn, Sided, shifts, shift_made, re
 ghost use Rattle.tracer.specs.declared.Action.TheVariants.{Reduce};
 ghost use Rattle.examples.specs.Again.{Listed, Finds};
 
-use codes::least_productions;
 use codes::viewing::view_codes;
+use codes::{EdgeCodes, least_productions};
 use error::Conflict;
 use example::Example;
 use first::FirstSets;
@@ -42,7 +43,7 @@ use shift_items::conflicting_shift_items;
 use table::AcceptedTable;
 use trace::reduce::suffix_ends;
 use trace_graph::Full;
-use tracer::{Action, OpenTrace, TracedItem, Tracer, trace_codes};
+use tracer::{Action, TracedItem, Tracer, trace_codes};
 use view::making::ViewLists;
 use view::{EdgeLabels, View};
 
@@ -288,11 +289,12 @@ fn list_outlines(
     }
 }
 
-// The item is traced from its state: its edges in words of one each, and the lists of the view from the item, in new lists. More than 1,024 edges do not fit.
+// The item is traced from its state: its edges in the words lent, one each, and the lists of the view from the item, in new lists. More than 1,024 edges do not fit.
 // The view itself is made by the caller: a view over both lent values at one lifetime has no proof.
-fn open_view(item: TableItem, trace: &mut OpenTrace, lists: &mut ViewLists) -> Result<(), Full>
-    requires { Blank lists.old }
-    ensures listable { OnOk result (Listable (meaning item.entry.given.table.words.now).productions (edges_by item.entry.traced.action (meaning item.entry.given.table.words.now) item.entry.traced.state (record { production = item.entry.traced.item.production; index = item.entry.traced.item.index })) lists.new.owners (drop 1 trace.new.edges.words) lists.new.sources lists.new.older lists.new.latest (record { production = item.entry.traced.item.production; index = item.entry.traced.item.index })) }
+fn open_view(item: TableItem, words: &mut [u16], lists: &mut ViewLists) -> Result<(), Full>
+    requires room { length words.old ≡ codes_room }
+    requires blank { Blank lists.old }
+    ensures listable { OnOk result (Listable (meaning item.entry.given.table.words.now).productions (edges_by item.entry.traced.action (meaning item.entry.given.table.words.now) item.entry.traced.state (record { production = item.entry.traced.item.production; index = item.entry.traced.item.index })) lists.new.owners (drop 1 words.new) lists.new.sources lists.new.older lists.new.latest (record { production = item.entry.traced.item.production; index = item.entry.traced.item.index })) }
     ensures edge_limit_in_bounds { OnErr result (edge_limit < length (edges_by item.entry.traced.action (meaning item.entry.given.table.words.now) item.entry.traced.state (record { production = item.entry.traced.item.production; index = item.entry.traced.item.index }))) }
 {
     let given = item.given;
@@ -301,8 +303,8 @@ fn open_view(item: TableItem, trace: &mut OpenTrace, lists: &mut ViewLists) -> R
         grammar: given.grammar,
         least: given.least,
     };
-    trace_codes(tracer, given.ends, item.traced, trace)?;
-    view_codes(given.grammar, &trace.edges.words, item.traced.item, lists);
+    trace_codes(tracer, given.ends, item.traced, words)?;
+    view_codes(given.grammar, words, item.traced.item, lists);
     Ok(())
 }
 
@@ -313,10 +315,10 @@ fn list_item(item: TableItem, side: &mut Side, count: usize) -> Result<Gathered,
     ensures same { SameWords side.old side.new }
     ensures trials_in { TrialsIn trial_limit result }
 {
-    let mut trace = OpenTrace::new();
+    let mut words = [0u16; EdgeCodes::WORDS];
     let mut lists = ViewLists::new();
-    open_view(item, &mut trace, &mut lists)?;
-    let view = lists.view(&trace.edges.words[1..]);
+    open_view(item, &mut words, &mut lists)?;
+    let view = lists.view(&words[1..]);
     let filter = item.given.filter(item.lookahead);
     let shift = traces_shift(item.traced.action);
     list_outlines(filter, shift, view, side, count)
@@ -413,10 +415,10 @@ fn item_again(item: TableItem, wanted: usize, buffer: &mut [u16])
     ensures { (k : ℕ) (x : ExampleOf) → k ≤ example_limit → Listed (traced_side (meaning item.entry.given.table.words.now) item.entry.traced item.entry.lookahead k) wanted x → buffer.new ≡ in_front (example_words (meaning item.entry.given.table.words.now).productions x) buffer.old }
 {
     let grammar = item.given.grammar;
-    let mut trace = OpenTrace::new();
+    let mut words = [0u16; EdgeCodes::WORDS];
     let mut lists = ViewLists::new();
-    if let Ok(()) = open_view(item, &mut trace, &mut lists) {
-        let view = lists.view(&trace.edges.words[1..]);
+    if let Ok(()) = open_view(item, &mut words, &mut lists) {
+        let view = lists.view(&words[1..]);
         let mut trial = [0u16; View::TRIAL];
         let filter = item.given.filter(item.lookahead);
         if find_example(filter, view, &mut trial, wanted) {

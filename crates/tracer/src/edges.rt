@@ -6,6 +6,7 @@ ghost use Rattle.trace_graph.specs.Graph.{TraceEdge, add, at_nonterminal, at_ite
 ghost use Rattle.trace.specs.Traced.{can_shift, owner_of};
 ghost use Rattle.trace.specs.Edges.{edge_to_nonterminal};
 ghost use Rattle.codes.specs.Coded.{Coded, Leasts, SmallLeasts};
+ghost use Rattle.codes.specs.Lent.{SameWords};
 ghost use Rattle.codes.specs.Kinds.{kind_from};
 
 use codes::{EdgeCode, EdgeCodes, EdgeKind};
@@ -16,8 +17,9 @@ use trace_graph::Full;
 // That the item is the table's is asked by the callers too, as it is of states and nonterminals: a type for it would have to hold the table, and items are compared and stored without one.
 pub fn to_item(least: &[u8], edges: &mut EdgeCodes, item: Item) -> Result<(), Full>
     requires { (item.production < production_limit) × (item.index < index_limit) × SmallLeasts least.now }
-    ensures coded { OnOk result ((T : Table) → TableFits T → Leasts T.productions least.now → ItemFits T (record { production = item.production; index = item.index }) → (es : List TraceEdge) → Coded T edges.old.words edges.old.flags es → Coded T edges.new.words edges.new.flags (add T.productions (record { source = at_nonterminal (owner_of T (record { production = item.production; index = item.index })); target = at_item (record { production = item.production; index = item.index }); label = record { production = item.production; index = item.index } }) es)) }
-    ensures full { OnErr result ((T : Table) → TableFits T → Leasts T.productions least.now → ItemFits T (record { production = item.production; index = item.index }) → (es : List TraceEdge) → Coded T edges.old.words edges.old.flags es → edge_limit < length (add T.productions (record { source = at_nonterminal (owner_of T (record { production = item.production; index = item.index })); target = at_item (record { production = item.production; index = item.index }); label = record { production = item.production; index = item.index } }) es)) }
+    ensures coded { OnOk result ((T : Table) → TableFits T → Leasts T.productions least.now → ItemFits T (record { production = item.production; index = item.index }) → (es : List TraceEdge) → Coded T edges.old.words.now edges.old.flags.now es → Coded T edges.new.words.now edges.new.flags.now (add T.productions (record { source = at_nonterminal (owner_of T (record { production = item.production; index = item.index })); target = at_item (record { production = item.production; index = item.index }); label = record { production = item.production; index = item.index } }) es)) }
+    ensures full { OnErr result ((T : Table) → TableFits T → Leasts T.productions least.now → ItemFits T (record { production = item.production; index = item.index }) → (es : List TraceEdge) → Coded T edges.old.words.now edges.old.flags.now es → edge_limit < length (add T.productions (record { source = at_nonterminal (owner_of T (record { production = item.production; index = item.index })); target = at_item (record { production = item.production; index = item.index }); label = record { production = item.production; index = item.index } }) es)) }
+    ensures same { SameWords edges.old edges.new }
 {
     edges.insert(
         least,
@@ -42,8 +44,9 @@ pub fn kind_on(on: bool) -> EdgeKind
 // That edge.
 pub fn to_nonterminal(least: &[u8], edges: &mut EdgeCodes, on: bool, item: Item) -> Result<(), Full>
     requires { (item.production < production_limit) × (item.index < index_limit) × SmallLeasts least.now }
-    ensures coded { OnOk result ((T : Table) → TableFits T → Leasts T.productions least.now → (n : ℕ) → n < length T.nonterminals → ItemFits T (record { production = item.production; index = item.index }) → can_shift T n (record { production = item.production; index = item.index }) ≡ true → (es : List TraceEdge) → Coded T edges.old.words edges.old.flags es → Coded T edges.new.words edges.new.flags (add T.productions (edge_to_nonterminal on (owner_of T (record { production = item.production; index = item.index })) n (record { production = item.production; index = item.index })) es)) }
-    ensures full { OnErr result ((T : Table) → TableFits T → Leasts T.productions least.now → (n : ℕ) → n < length T.nonterminals → ItemFits T (record { production = item.production; index = item.index }) → can_shift T n (record { production = item.production; index = item.index }) ≡ true → (es : List TraceEdge) → Coded T edges.old.words edges.old.flags es → edge_limit < length (add T.productions (edge_to_nonterminal on (owner_of T (record { production = item.production; index = item.index })) n (record { production = item.production; index = item.index })) es)) }
+    ensures coded { OnOk result ((T : Table) → TableFits T → Leasts T.productions least.now → (n : ℕ) → n < length T.nonterminals → ItemFits T (record { production = item.production; index = item.index }) → can_shift T n (record { production = item.production; index = item.index }) ≡ true → (es : List TraceEdge) → Coded T edges.old.words.now edges.old.flags.now es → Coded T edges.new.words.now edges.new.flags.now (add T.productions (edge_to_nonterminal on (owner_of T (record { production = item.production; index = item.index })) n (record { production = item.production; index = item.index })) es)) }
+    ensures full { OnErr result ((T : Table) → TableFits T → Leasts T.productions least.now → (n : ℕ) → n < length T.nonterminals → ItemFits T (record { production = item.production; index = item.index }) → can_shift T n (record { production = item.production; index = item.index }) ≡ true → (es : List TraceEdge) → Coded T edges.old.words.now edges.old.flags.now es → edge_limit < length (add T.productions (edge_to_nonterminal on (owner_of T (record { production = item.production; index = item.index })) n (record { production = item.production; index = item.index })) es)) }
+    ensures same { SameWords edges.old edges.new }
 {
     let kind = kind_on(on);
     edges.insert(least, EdgeCode { kind, item })

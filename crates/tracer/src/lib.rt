@@ -8,7 +8,7 @@ pub mod shift;
 pub mod stamps;
 pub mod tails;
 
-ghost use Rattle.std.specs.Prelude.{OnOk, OnErr, MatchOption, ◌≡◌, ℕ, ◌+◌, ◌*◌, ◌<◌, ◌≤◌, true, false, eqb, [], length, replicate};
+ghost use Rattle.std.specs.Prelude.{OnOk, OnErr, MatchOption, ◌≡◌, ℕ, ◌+◌, ◌*◌, ◌<◌, ◌≤◌, true, false, eqb, List, [], length};
 ghost use Rattle.repr.specs.Sizes.{nonterminal_limit, state_limit, edge_limit, graph_room, scratch_words};
 ghost use Rattle.repr.specs.Meaning as meaning-of;
 ghost use Rattle.repr.specs.Listed.{listed};
@@ -20,7 +20,7 @@ ghost use Rattle.table.specs.Decoded.{meaning};
 ghost use Rattle.trace_graph.specs.Words.{graph_words};
 ghost use Rattle.trace.specs.Ends.{Ends};
 ghost use Rattle.bits.specs.Bits.{bit_at, bit_put};
-ghost use Rattle.codes.specs.Coded.{Coded};
+ghost use Rattle.codes.specs.Coded.{codes_room, Coded};
 ghost use Rattle.tracer.specs.Held.{pair_words, Working};
 ghost use Rattle.tracer.specs.Outcome.{outcome, edges_outcome, traced_in};
 ghost use Rattle.tracer.specs.Built.{Asked, edges_by};
@@ -59,59 +59,29 @@ fn nonterminal_at(grammar: Grammar, item: Item) -> Option<usize>
     }
 }
 
-// A trace at work: its edges, and a bit for each pair of a state and a nonterminal that is entered, in fixed words, since there is no heap.
-#[derive(Drop)]
-pub struct OpenTrace {
-    pub edges: EdgeCodes,
-    pub entered: [u64; OpenTrace::PAIR_WORDS],
+// Words for a bit for each pair of a state and a nonterminal, which tracing enters once. They are lent beside a trace's edges: of a struct within a struct over words lent, nothing is known once it is let go.
+pub const PAIR_WORDS: usize = StateIndex::LIMIT * NonterminalString::LIMIT / 64;
+
+// Whether a pair is entered.
+fn is_entered(entered: &[u64], state: usize, nonterminal: usize) -> bool
+    requires room { length entered.now ≡ pair_words }
+    requires within { (state < state_limit) × (nonterminal < nonterminal_limit) }
+    ensures { result ≡ bit_at entered.now (state * nonterminal_limit + nonterminal) }
+{
+    is_set(entered, state * NonterminalString::LIMIT + nonterminal)
 }
 
-impl OpenTrace {
-    pub const PAIR_WORDS: usize = StateIndex::LIMIT * NonterminalString::LIMIT / 64;
-
-    // No edge, and no pair entered.
-    pub fn new() -> OpenTrace
-        ensures edges { (T : meaning-of.Table) → Coded T result.edges.words result.edges.flags [] }
-        ensures entered { result.entered ≡ replicate pair_words 0 }
-    {
-        OpenTrace {
-            edges: EdgeCodes::new(),
-            entered: [0u64; OpenTrace::PAIR_WORDS],
-        }
-    }
-
-    // As `new` makes it.
-    pub fn clear(&mut self)
-        ensures edges { (T : meaning-of.Table) → Coded T self.new.edges.words self.new.edges.flags [] }
-        ensures entered { self.new.entered ≡ replicate pair_words 0 }
-    {
-        self.edges.clear();
-        self.entered.fill(0);
-    }
-
-    // Whether a pair is entered.
-    fn is_entered(&self, state: usize, nonterminal: usize) -> bool
-        requires { (state < state_limit) × (nonterminal < nonterminal_limit) }
-        ensures { result ≡ bit_at self.now.entered (state * nonterminal_limit + nonterminal) }
-    {
-        is_set(
-            &self.entered,
-            state * NonterminalString::LIMIT + nonterminal,
-        )
-    }
-}
-
-// Enters a pair: whether it is new (`visited_set.insert`). Of the bits alone, as the edges of the trace stay.
-fn enter(entered: &mut [u64; OpenTrace::PAIR_WORDS], state: usize, nonterminal: usize) -> bool
-    requires { (state < state_limit) × (nonterminal < nonterminal_limit) }
+// Enters a pair: whether it is new (`visited_set.insert`).
+fn enter(entered: &mut [u64], state: usize, nonterminal: usize) -> bool
+    requires room { length entered.old ≡ pair_words }
+    requires within { (state < state_limit) × (nonterminal < nonterminal_limit) }
     ensures new { result ≡ true → (bit_at entered.old (state * nonterminal_limit + nonterminal) ≡ false) × (entered.new ≡ bit_put entered.old (state * nonterminal_limit + nonterminal)) }
     ensures known { result ≡ false → (bit_at entered.old (state * nonterminal_limit + nonterminal) ≡ true) × (entered.new ≡ entered.old) }
 {
-    let pair = state * NonterminalString::LIMIT + nonterminal;
-    if is_set(entered, pair) {
+    if is_entered(entered, state, nonterminal) {
         return false;
     }
-    put(entered, pair);
+    put(entered, state * NonterminalString::LIMIT + nonterminal);
     true
 }
 
@@ -130,23 +100,24 @@ pub struct TracedItem {
     pub action: Action,
 }
 
-// The one trace or the other; a reduction goes by the flags of the items whose suffixes are nullable.
+// The one trace or the other, its edges' words in those lent, which may hold anything before; a reduction goes by the flags of the items whose suffixes are nullable.
 pub fn trace_codes<'a>(
     tracer: Tracer<'a>,
     ends: &'a [u64],
     traced: TracedItem,
-    trace: &mut OpenTrace,
+    words: &mut [u16],
 ) -> Result<(), Full>
+    requires room { length words.old ≡ codes_room }
     requires within { (traced.state < length (meaning tracer.table.words.now).states) × meaning-of.ItemFits (meaning tracer.table.words.now) (record { production = traced.item.production; index = traced.item.index }) }
     requires suffixes { traced.action ≡ Reduce → Ends (meaning tracer.table.words.now) ends.now }
-    ensures coded { OnOk result (Coded (meaning tracer.entry.table.words.now) trace.new.edges.words trace.new.edges.flags (edges_by traced.action (meaning tracer.entry.table.words.now) traced.state (record { production = traced.item.production; index = traced.item.index }))) }
+    ensures coded { OnOk result ((fs : List ℕ) × Coded (meaning tracer.entry.table.words.now) words.new fs (edges_by traced.action (meaning tracer.entry.table.words.now) traced.state (record { production = traced.item.production; index = traced.item.index }))) }
     ensures full { OnErr result (edge_limit < length (edges_by traced.action (meaning tracer.entry.table.words.now) traced.state (record { production = traced.item.production; index = traced.item.index }))) }
 {
     let state = traced.state;
     let item = traced.item;
     match traced.action {
-        Action::Shift => shift_codes(tracer, state, item, trace),
-        Action::Reduce => reduce_codes(Reduction { tracer, ends }, state, item, trace),
+        Action::Shift => shift_codes(tracer, state, item, words),
+        Action::Reduce => reduce_codes(Reduction { tracer, ends }, state, item, words),
     }
 }
 
@@ -182,10 +153,10 @@ pub fn build(
         grammar,
         least: &least,
     };
-    let mut trace = OpenTrace::new();
+    let mut words = [0u16; EdgeCodes::WORDS];
     let ends = ends_for(tracer, traced.action);
-    trace_codes(tracer, &ends, traced, &mut trace)?;
-    write_codes(grammar, &trace.edges.words, graph);
+    trace_codes(tracer, &ends, traced, &mut words)?;
+    write_codes(grammar, &words, graph);
     Ok(())
 }
 

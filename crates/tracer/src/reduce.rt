@@ -1,6 +1,6 @@
 // `backtrace_reduce` (lr1/trace/reduce), part 5 of document 01, over edges of one word: the item step and the state step, which call each other. Each pair of a state and a nonterminal is
 // entered once, so the pairs that are left fall. A frame holds references and numbers alone: the calls may nest as deep as there are pairs.
-ghost use Rattle.std.specs.Prelude.{OnOk, OnErr, ◌≡◌, ℕ, ◌<◌, ◌≤◌, length};
+ghost use Rattle.std.specs.Prelude.{OnOk, OnErr, ◌≡◌, ℕ, ◌<◌, ◌≤◌, List, length};
 ghost use Rattle.repr.specs.Sizes.{edge_limit};
 ghost use Rattle.repr.specs.Meaning.{ItemFits};
 ghost use Rattle.table.specs.Decoded.{meaning};
@@ -10,14 +10,16 @@ ghost use Rattle.state_graph.specs.States.{states_in};
 ghost use Rattle.trace.specs.Traced.{Trace, prefix_of, suffix_of};
 ghost use Rattle.trace.specs.Reduce.{item_of_reduce, state_of_reduce, reduce_edges};
 ghost use Rattle.trace.specs.Ends.{Ends};
-ghost use Rattle.codes.specs.Coded.{Coded};
-ghost use Rattle.tracer.specs.Held.{unset};
+ghost use Rattle.codes.specs.Coded.{codes_room, Coded};
+ghost use Rattle.codes.specs.Lent.{SameWords};
+ghost use Rattle.tracer.specs.Held.{pair_words, unset};
 ghost use Rattle.tracer.specs.Stamps.{Reduces, ReduceExceeds};
 
 use crate::edges::{to_item, to_nonterminal};
 use crate::stamps::Stamps;
-use crate::{OpenTrace, Tracer, enter};
+use crate::{PAIR_WORDS, Tracer, enter};
 use bits::is_set;
+use codes::EdgeCodes;
 use lr1_core::Item;
 use state_graph::{StateSet, StateWalk};
 use trace_graph::Full;
@@ -50,27 +52,30 @@ fn ends_at(over: Reduction, item: Item) -> bool
 }
 
 // `trace_reduce_item`: an edge into the item, and on from each state in which the item begins.
-// What the two are given travels together in this recursion alone: a struct of it would be made once, in `reduce_codes`, with the trace lent in it, and each clause would go through it.
+// What the two are given travels together in this recursion alone: a struct of it would be made once, in `reduce_codes`, with the edges lent in it, and each clause would go through it.
 #[cycle(reduce_item_reduce_state)]
 pub fn reduce_item(
     over: Reduction,
     walk: &mut StateWalk,
-    trace: &mut OpenTrace,
+    edges: &mut EdgeCodes,
+    entered: &mut [u64],
     stamps: &mut Stamps,
     state: usize,
     item: Item,
 ) -> Result<(), Full>
+    requires room { length entered.old ≡ pair_words }
     requires table { meaning walk.old.table.words.now ≡ meaning over.tracer.table.words.now }
     requires within { (state < length (meaning over.tracer.table.words.now).states) × ItemFits (meaning over.tracer.table.words.now) (record { production = item.production; index = item.index }) }
-    ensures reduces { OnOk result ((f : ℕ) → unset trace.old.entered ≤ f → Reduces (meaning over.entry.tracer.table.words.now) (λ (st : Trace). item_of_reduce (meaning over.entry.tracer.table.words.now) (λ (p m : ℕ) (u : Trace). state_of_reduce (meaning over.entry.tracer.table.words.now) f p m u) state (record { production = item.production; index = item.index }) st) trace.old.edges.words trace.old.edges.flags trace.old.entered stamps.old.words trace.new.edges.words trace.new.edges.flags trace.new.entered stamps.new.words) }
-    ensures reduce_exceeds { OnErr result ((f : ℕ) → unset trace.old.entered ≤ f → ReduceExceeds (meaning over.entry.tracer.table.words.now) (λ (st : Trace). item_of_reduce (meaning over.entry.tracer.table.words.now) (λ (p m : ℕ) (u : Trace). state_of_reduce (meaning over.entry.tracer.table.words.now) f p m u) state (record { production = item.production; index = item.index }) st) trace.old.edges.words trace.old.edges.flags trace.old.entered stamps.old.words) }
-    ensures entered_bound { (unset trace.new.entered ≤ unset trace.old.entered) × (walk.new.table.words.now ≡ walk.old.table.words.now) }
+    ensures reduces { OnOk result ((f : ℕ) → unset entered.old ≤ f → Reduces (meaning over.entry.tracer.table.words.now) (λ (st : Trace). item_of_reduce (meaning over.entry.tracer.table.words.now) (λ (p m : ℕ) (u : Trace). state_of_reduce (meaning over.entry.tracer.table.words.now) f p m u) state (record { production = item.production; index = item.index }) st) edges.old.words.now edges.old.flags.now entered.old stamps.old.words edges.new.words.now edges.new.flags.now entered.new stamps.new.words) }
+    ensures reduce_exceeds { OnErr result ((f : ℕ) → unset entered.old ≤ f → ReduceExceeds (meaning over.entry.tracer.table.words.now) (λ (st : Trace). item_of_reduce (meaning over.entry.tracer.table.words.now) (λ (p m : ℕ) (u : Trace). state_of_reduce (meaning over.entry.tracer.table.words.now) f p m u) state (record { production = item.production; index = item.index }) st) edges.old.words.now edges.old.flags.now entered.old stamps.old.words) }
+    ensures entered_bound { (unset entered.new ≤ unset entered.old) × (walk.new.table.words.now ≡ walk.old.table.words.now) }
+    ensures same { SameWords edges.old edges.new }
 {
-    to_item(over.tracer.least, &mut trace.edges, item)?;
+    to_item(over.tracer.least, edges, item)?;
     let owner = over.tracer.grammar.owner(item.production);
     let states = begins(over.tracer, walk, state, item);
     for from in states.iter() {
-        reduce_state(over, walk, trace, stamps, from.0 as usize, owner)?;
+        reduce_state(over, walk, edges, entered, stamps, from.0 as usize, owner)?;
     }
     Ok(())
 }
@@ -82,18 +87,21 @@ pub fn reduce_item(
 pub fn reduce_state(
     over: Reduction,
     walk: &mut StateWalk,
-    trace: &mut OpenTrace,
+    edges: &mut EdgeCodes,
+    entered: &mut [u64],
     stamps: &mut Stamps,
     state: usize,
     nonterminal: usize,
 ) -> Result<(), Full>
+    requires room { length entered.old ≡ pair_words }
     requires table { meaning walk.old.table.words.now ≡ meaning over.tracer.table.words.now }
     requires within { (state < length (meaning over.tracer.table.words.now).states) × (nonterminal < length (meaning over.tracer.table.words.now).nonterminals) }
-    ensures reduces { OnOk result ((f : ℕ) → unset trace.old.entered ≤ f → Reduces (meaning over.entry.tracer.table.words.now) (λ (st : Trace). state_of_reduce (meaning over.entry.tracer.table.words.now) f state nonterminal st) trace.old.edges.words trace.old.edges.flags trace.old.entered stamps.old.words trace.new.edges.words trace.new.edges.flags trace.new.entered stamps.new.words) }
-    ensures reduce_exceeds { OnErr result ((f : ℕ) → unset trace.old.entered ≤ f → ReduceExceeds (meaning over.entry.tracer.table.words.now) (λ (st : Trace). state_of_reduce (meaning over.entry.tracer.table.words.now) f state nonterminal st) trace.old.edges.words trace.old.edges.flags trace.old.entered stamps.old.words) }
-    ensures entered_bound { (unset trace.new.entered ≤ unset trace.old.entered) × (walk.new.table.words.now ≡ walk.old.table.words.now) }
+    ensures reduces { OnOk result ((f : ℕ) → unset entered.old ≤ f → Reduces (meaning over.entry.tracer.table.words.now) (λ (st : Trace). state_of_reduce (meaning over.entry.tracer.table.words.now) f state nonterminal st) edges.old.words.now edges.old.flags.now entered.old stamps.old.words edges.new.words.now edges.new.flags.now entered.new stamps.new.words) }
+    ensures reduce_exceeds { OnErr result ((f : ℕ) → unset entered.old ≤ f → ReduceExceeds (meaning over.entry.tracer.table.words.now) (λ (st : Trace). state_of_reduce (meaning over.entry.tracer.table.words.now) f state nonterminal st) edges.old.words.now edges.old.flags.now entered.old stamps.old.words) }
+    ensures entered_bound { (unset entered.new ≤ unset entered.old) × (walk.new.table.words.now ≡ walk.old.table.words.now) }
+    ensures same { SameWords edges.old edges.new }
 {
-    if !enter(&mut trace.entered, state, nonterminal) {
+    if !enter(entered, state, nonterminal) {
         return Ok(());
     }
     for read in over.tracer.table.items(state) {
@@ -105,29 +113,41 @@ pub fn reduce_state(
             continue;
         }
         let on = ends_at(over, item);
-        to_nonterminal(over.tracer.least, &mut trace.edges, on, item)?;
+        to_nonterminal(over.tracer.least, edges, on, item)?;
         if !on || stamps.at(item) == state + 1 {
             continue;
         }
-        reduce_item(over, walk, trace, stamps, state, item)?;
+        reduce_item(over, walk, edges, entered, stamps, state, item)?;
         stamps.put(item, state + 1);
     }
     Ok(())
 }
 
-// `backtrace_reduce`: the trace may hold anything before. The traced item itself gets no stamp: where it is met again, not all of its pairs are entered yet.
+// `backtrace_reduce`: the words may hold anything before. The traced item itself gets no stamp: where it is met again, not all of its pairs are entered yet.
 pub fn reduce_codes(
     over: Reduction,
     state: usize,
     item: Item,
-    trace: &mut OpenTrace,
+    words: &mut [u16],
 ) -> Result<(), Full>
+    requires room { length words.old ≡ codes_room }
     requires within { (state < length (meaning over.tracer.table.words.now).states) × ItemFits (meaning over.tracer.table.words.now) (record { production = item.production; index = item.index }) }
-    ensures coded { OnOk result (Coded (meaning over.entry.tracer.table.words.now) trace.new.edges.words trace.new.edges.flags (reduce_edges (meaning over.entry.tracer.table.words.now) state (record { production = item.production; index = item.index }))) }
+    ensures coded { OnOk result ((fs : List ℕ) × Coded (meaning over.entry.tracer.table.words.now) words.new fs (reduce_edges (meaning over.entry.tracer.table.words.now) state (record { production = item.production; index = item.index }))) }
     ensures full { OnErr result (edge_limit < length (reduce_edges (meaning over.entry.tracer.table.words.now) state (record { production = item.production; index = item.index }))) }
 {
-    trace.clear();
+    let mut flags = [0u64; EdgeCodes::KEY_WORDS];
+    let mut entered = [0u64; PAIR_WORDS];
+    let mut edges = EdgeCodes::of(words, &mut flags);
+    edges.clear();
     let mut walk = StateWalk::new(over.tracer.table);
     let mut stamps = Stamps::new();
-    reduce_item(over, &mut walk, trace, &mut stamps, state, item)
+    reduce_item(
+        over,
+        &mut walk,
+        &mut edges,
+        &mut entered,
+        &mut stamps,
+        state,
+        item,
+    )
 }

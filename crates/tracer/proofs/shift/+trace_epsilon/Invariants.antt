@@ -1,3 +1,4 @@
+use Rattle.codes.specs.Lent.{SameWords}
 use Rattle.tracer.specs.Held.{unset}
 use Rattle.tracer.proofs.Turns.{Turning}
 use Rattle.tracer.specs.Tails.{Usable}
@@ -5,10 +6,10 @@ use Rattle.tracer.proofs.Places.{left, further, Placed}
 use Rattle.tracer.proofs.shift.+trace_epsilon.Given as goal
 
 abbrev pub invariant-loop-place : goal.invariant-loop-place
-invariant-loop-place l = (L : Usable l.tracer.table.words.now l.records l.links) × Turning l.tracer.table.words.now l.state l.nonterminal l.initial.trace.edges.words l.initial.trace.edges.flags l.initial.trace.entered l.trace.edges.words l.trace.edges.flags l.trace.entered (left l.tracer.table.words.now l.records L.count l.place.slot l.place.at) × Placed l.tracer.table.words.now l.records l.links L l.nonterminal l.place.slot l.place.at
+invariant-loop-place l = (L : Usable l.tracer.table.words.now l.records l.links) × Turning l.tracer.table.words.now l.state l.nonterminal l.initial.edges.words.now l.initial.edges.flags.now l.initial.entered l.edges.words.now l.edges.flags.now l.entered (left l.tracer.table.words.now l.records L.count l.place.slot l.place.at) × Placed l.tracer.table.words.now l.records l.links L l.nonterminal l.place.slot l.place.at × SameWords l.initial.edges l.edges
 
 abbrev pub decreases-loop-place : goal.decreases-loop-place
 decreases-loop-place l = further l.tracer.table.words.now l.place.slot l.place.at
 
 abbrev pub decreases-trace_epsilon : goal.decreases-trace_epsilon
-decreases-trace_epsilon l = unset l.trace.now.entered
+decreases-trace_epsilon l = unset l.entered.now

@@ -16,7 +16,7 @@ returns-then-read-last c = elim c.then-read-last.branch [
 ]
 
 pub is_passed-requires : goal.is_passed-requires
-is_passed-requires c = ((rw c.loop-read.invariant.0 at c.in-Some.ensures.steps.1.2).fits, c.requires.within.0)
+is_passed-requires c = record { room = c.requires.room; within = ((rw c.loop-read.invariant.0 at c.in-Some.ensures.steps.1.2).fits, c.requires.within.0) }
 
 pub returns-then-not-is_passed : goal.returns-then-not-is_passed
 returns-then-not-is_passed c = λ e. absurd (true≢false (sym e))

@@ -3,4 +3,4 @@ use Rattle.tracer.proofs.Passing.{Passing}
 use Rattle.tracer.proofs.shift.adds_nothing.Given as goal
 
 abbrev pub invariant-loop-read : goal.invariant-loop-read
-invariant-loop-read l = (l.read-iterator.table.words.now ≡ l.tracer.table.words.now) × Passing l.tracer.table.words.now l.state l.trace.edges.flags l.trace.entered l.known.state l.read-iterator.at
+invariant-loop-read l = (l.read-iterator.table.words.now ≡ l.tracer.table.words.now) × Passing l.tracer.table.words.now l.state l.edges.flags.now l.entered l.known.state l.read-iterator.at

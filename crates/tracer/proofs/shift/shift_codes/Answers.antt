@@ -1,5 +1,6 @@
 use Rattle.codes.proofs.Answered.{on_ok, on_err}
-use Rattle.std.proofs.Common.{◌<◌, length}
+use Rattle.codes.proofs.Lent.{coded_lent}
+use Rattle.std.proofs.Common.{rules, ◌<◌, length, refl}
 use Rattle.repr.specs.Sizes.{edge_limit}
 use Rattle.table.specs.Decoded.{meaning}
 use Rattle.codes.specs.Coded.{Coded}
@@ -13,7 +14,7 @@ pub trace_back-states-requires : goal.trace_back-states-requires
 trace_back-states-requires c = record { state_in_bounds = (c.requires.within.0, prefix-listed c.args.tracer.working c.requires.within.0 c.requires.within.1 _ c.prefix.ensures.0) }
 
 pub shift_over-requires : goal.shift_over-requires
-shift_over-requires c = record { entered = c.clear.ensures.entered; within = (found_in_lem c.args.tracer.working c.requires.within.0 c.requires.within.1 _ (found_is c.args.tracer.working c.requires.within.0 c.requires.within.1 _ _ c.prefix.ensures.1 c.trace_back-states.ensures), c.requires.within.1) }
+shift_over-requires c = record { entered = refl; within = (found_in_lem c.args.tracer.working c.requires.within.0 c.requires.within.1 _ (found_is c.args.tracer.working c.requires.within.0 c.requires.within.1 _ _ c.prefix.ensures.1 c.trace_back-states.ensures), c.requires.within.1) }
 
 pub returns : goal.returns
-returns c = let e = found_is c.args.tracer.working c.requires.within.0 c.requires.within.1 _ _ c.prefix.ensures.1 c.trace_back-states.ensures in let C = c.clear.ensures.edges (meaning c.args.tracer.table.words.now) in record { coded = on_ok c.shift_over.result c.shift_over.ensures.coded (λ r. shift_from c.args.tracer.working c.requires.within.0 c.requires.within.1 _ e _ _ C (Coded (meaning c.args.tracer.table.words.now) _ _) r); full = on_err c.shift_over.result c.shift_over.ensures.full (λ r. shift_from c.args.tracer.working c.requires.within.0 c.requires.within.1 _ e _ _ C (λ es. edge_limit < length es) r) }
+returns c = let e = found_is c.args.tracer.working c.requires.within.0 c.requires.within.1 _ _ c.prefix.ensures.1 c.trace_back-states.ensures in let C = c.clear.ensures.none (meaning c.args.tracer.table.words.now) in record { coded = on_ok c.shift_over.result c.shift_over.ensures.coded (λ r. (_, coded_lent (search rules) (shift_from c.args.tracer.working c.requires.within.0 c.requires.within.1 _ e _ _ C (Coded (meaning c.args.tracer.table.words.now) _ _) r))); full = on_err c.shift_over.result c.shift_over.ensures.full (λ r. shift_from c.args.tracer.working c.requires.within.0 c.requires.within.1 _ e _ _ C (λ es. edge_limit < length es) r) }
