@@ -38,7 +38,7 @@ pub const TAIL_AHEAD: usize = 64;
 pub const SHORT_TABLE: usize = 2560;
 
 // A listed tail in N words each.
-// Records and their links in fixed words, since there is no heap. The functions below take them as two slices: of the struct each, and the recursion of `trace_epsilon`, would be generic in N and stand in the program for both lengths.
+// Records and their links in fixed words, since there is no heap. The functions below take them as two slices: of the struct each, and the recursion of `trace_epsilon`, would be generic in N and stand in the program for both lengths; a struct of the two slices would be made anew at each call, as a list is written between two readings of it.
 #[derive(Drop)]
 pub struct TailList<const N: usize> {
     pub records: [u16; N],
