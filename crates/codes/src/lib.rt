@@ -133,17 +133,18 @@ impl<'a> EdgeCodes<'a> {
         EdgeCodes { words, flags }
     }
 
-    // Takes all edges away, whatever the words hold.
+    // Takes all edges away, whatever the words hold. (That it stays over the words lent is said here and by each function that adds edges: a struct lent for writing could be put over others.)
     pub fn clear(&mut self)
         ensures none { (T : meaning-of.Table) → Coded T self.new.words.now self.new.flags.now [] }
         ensures same { SameWords self.old self.new }
     {
+        // As document 01 makes an empty graph.
         let empty = TraceGraph::new();
         self.words[0] = empty.edges as u16;
         self.flags.fill(0);
     }
 
-    // Whether an edge has the key.
+    // Whether an edge has the key. (A method of `&self`, as the next: of a field lent for writing that is read in place the proof knows nothing.)
     fn has(&self, key: usize) -> bool
         requires { key < code_limit }
         ensures { result ≡ bit_at self.now.flags.now key }

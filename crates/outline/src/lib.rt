@@ -169,7 +169,7 @@ pub fn outline_of(labels: Labels, shift: bool) -> Outline
     }
 }
 
-// What is kept of a side's examples, as it is written: outlines, behind them the labels of the first, and of each example its print.
+// What is kept of a side's examples, as it is written (each function that writes says that it stays over its words, as those of `EdgeCodes` do): outlines, behind them the labels of the first, and of each example its print.
 // Words that are lent, since there is no heap, and u16 by place, with the prints beside them, since each definition of a side is over its words (specs/Kept). How many are used is the count that a listing answers, which is refused before it is more: no field, as a refusal leaves what is kept behind it.
 #[derive(Drop)]
 pub struct Side<'a> {

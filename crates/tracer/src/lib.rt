@@ -59,7 +59,7 @@ fn nonterminal_at(grammar: Grammar, item: Item) -> Option<usize>
     }
 }
 
-// Words for a bit for each pair of a state and a nonterminal, which tracing enters once. They are lent beside a trace's edges: of a struct within a struct over words lent, nothing is known once it is let go.
+// Words for a bit for each pair of a state and a nonterminal, which tracing enters once. They are lent beside a trace's edges: of a struct within a struct over words lent, nothing is known once it is let go, and one of these bits alone would have each function say that it stays over them, as of `EdgeCodes`.
 pub const PAIR_WORDS: usize = StateIndex::LIMIT * NonterminalString::LIMIT / 64;
 
 // Whether a pair is entered.

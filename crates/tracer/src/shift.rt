@@ -192,7 +192,7 @@ fn passes_over(
 }
 
 // Each state of the set in turn, ascending. A state whose items add nothing to the state traced last is passed over, and a record of it known, TAIL_AHEAD on from its first, since 128 states cannot have more records of their own each. The lists of two tails are kept from state to state.
-// That no pair is entered is asked here and by both that call this: its bits are words lent, before and at work.
+// That no pair is entered is asked here and above up to `shift_codes`: the bits of pairs are words lent, before and at work.
 fn trace_each<const N: usize>(
     tracer: Tracer,
     edges: &mut EdgeCodes,
@@ -302,7 +302,7 @@ pub fn shift_over(
     trace_states(tracer, edges, entered, states, owner)
 }
 
-// `backtrace_shift`: the words may hold anything before.
+// `backtrace_shift`: the words may hold anything before. (How many they are is asked here, in src/reduce.rt and in crate examples: they are a slice as they are lent.)
 pub fn shift_codes(tracer: Tracer, state: usize, item: Item, words: &mut [u16]) -> Result<(), Full>
     requires room { length words.old ≡ codes_room }
     requires within { (state < length (meaning tracer.table.words.now).states) × ItemFits (meaning tracer.table.words.now) (record { production = item.production; index = item.index }) }
