@@ -23,9 +23,7 @@ weak() { # WHAT BASE, whose BASE was before
     put crates/outline/specs/Outline.antt "print_base = $3" "print_base = $2"
     put crates/outline/src/lib.rt "BASE: u64 = $3;" "BASE: u64 = $2;"
     echo "prints.sh: $1"
-    # as the gate proves, side by side, what lies below the prints kept from earlier runs; edits are the gate's
-    env -u CI rt ci lihvemur_c | tail -n 1
-    ./library.sh --after-ci target/c | tail -n 1
+    ./library.sh target/c | tail -n 1
     PORT_LIB=$copy/target/c sh oracle/build.sh | tail -n 1
     for words in marked "compare all 1 $seeds" "compare limit 1 14"; do
         # shellcheck disable=SC2086
