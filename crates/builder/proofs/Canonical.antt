@@ -22,6 +22,7 @@ use Rattle.spelling.proofs.Places.{spell-length}
 use Rattle.build.specs.States.{built, build, written, clashes}
 use Rattle.build.specs.Built.{built_state, built_table, conflict_words}
 use Rattle.build.specs.Outcome.{Outcome, refused, full, outcome}
+use Rattle.build.proofs.Built.{clash_fits}
 use Rattle.build.proofs.Collection.{build_right}
 use Rattle.build.proofs.Canonical.{canonical, reached, states_differ}
 use Rattle.build.proofs.Order.{found_in_order}
@@ -33,7 +34,6 @@ use Rattle.builder.specs.Outcome.{Left, build_scratch, start_is_fit, conflict_co
 use Rattle.builder.specs.Canonical.{set_of, IsCanonical}
 use Rattle.builder.specs.declared.Built.{Built}
 use Rattle.builder.proofs.Written.{edges_are, build_accepted, build-meaning, build_spelling}
-use Rattle.builder.proofs.Fit.{conflicts_fit}
 use Rattle.builder.proofs.Ways.{in_short, in_unfit, build-refused, build_checked}
 
 -- what was found, in the book's terms
@@ -84,7 +84,7 @@ module _ (t : List ℕ) (accepted : check_of t ≡ Accepted) (start room words :
         words = refl;
         exact = λ k l c. conflicts_exact T F (get_or Rs k []) (set_of (get_or Rs k [])) (r.0.found.good k l).sized (λ j a. ((λ x. x), (λ x. x))) c;
         ascend = λ k l. conflicts_ascend T (get_or Rs k []);
-        classified = λ k l c m scratch action reduce ls la lr. rw means (conflicts_fit t accepted start room words h Rs es e k l c m scratch action reduce ls la lr);
+        inside = λ k l c m. let f = clash_fits T F start h Rs es whole k l c m in rw means (record { production = f.production; token = f.token; shift = f.shift; reduction = f.reduction });
       }
 
 -- a call that answers a table was not refused on the way

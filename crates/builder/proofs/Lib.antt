@@ -1,5 +1,4 @@
 pub mod Written
-pub mod Fit
 pub mod Canonical
 pub mod Ways
 pub mod Found

@@ -1,8 +1,7 @@
--- What building promises where it answers a table (Req 01), in the book's terms. Assumes nothing: these are definitions.
+-- What building promises where it answers a table, in the book's terms. Assumes nothing: these are definitions.
 use Rattle.std.specs.Prelude.{ℕ, ◌<◌, ◌≤◌, true, ◌≡◌, ◌↔◌, length, get_or}
 use mathlib.Core.List.{List, [], map, Memᴰ}
 use Rattle.std.proofs.Math.Option.{some}
-use Rattle.repr.specs.Sizes.{classify_scratch, example_room}
 use Rattle.repr.specs.Lists.{below, joined}
 use Rattle.repr.specs.Meaning.{Symbol, Item, Edge, Table, state_at}
 use Rattle.lookahead.specs.Tokens.{has}
@@ -10,9 +9,6 @@ use Rattle.table.specs.Checked.{Accepted}
 use Rattle.table.specs.Decoded.{meaning}
 use Rattle.table.specs.Refusals.{check_of}
 use Rattle.spelling.specs.Spelled.{edge_lists, spell}
-use Rattle.error.specs.declared.Conflict.{Conflict as Asked}
-use Rattle.error.specs.Sides.{gather}
-use Rattle.error.specs.Outcome.{gathered_outcome, classify_of}
 use Rattle.build.specs.Canonical.{Set, Viable, Inhabited, Clash, Conflict, Before, ItemBefore, Ascends, InOrder}
 use Rattle.build.specs.States.{tokens, walk}
 use Rattle.build.specs.Built.{clash_words}
@@ -25,9 +21,12 @@ set_of S i a = has (tokens S i) a ≡ true
 abbrev pub Equals : Set → Set → Type 0
 Equals K L = (i : Item) (a : ℕ) → K i a ↔ L i a
 
--- a conflict of state k as `classify` takes it
-abbrev pub conflict_of : ℕ → Clash → Asked
-conflict_of k c = record { state = record { 0 = k }; production = record { 0 = c.production }; action = c.action; operand = c.other; token = c.token }
+-- the numbers of a conflict are the table's; nothing shifts the end of the input
+pub record InTable (T : Table) (c : Clash) : Type 0 where
+  pub production : c.production < length T.productions
+  pub token : c.token ≤ T.terminals
+  pub shift : c.action ≡ 0 → (c.other < T.terminals) × (c.token < T.terminals)
+  pub reduction : (c.action ≡ 0 → ⊥) → (c.action ≡ 1) × (c.other < length T.productions)
 
 -- u are the words of the table, list those of its conflicts; T is the table that was lent
 pub record IsCanonical (T : Table) (start : ℕ) (u list : List ℕ) : Type 0 where
@@ -53,7 +52,4 @@ pub record IsCanonical (T : Table) (start : ℕ) (u list : List ℕ) : Type 0 wh
   pub words : list ≡ joined (λ (k : ℕ). joined (clash_words k) (conflicts k)) (below (length states))
   pub exact : (k : ℕ) → k < length states → (c : Clash) → Memᴰ c (conflicts k) ↔ Conflict T (set_of (get_or states k [])) c
   pub ascend : (k : ℕ) → k < length states → Ascends Before (conflicts k)
-  -- `classify` refuses none of them by 1 to 11: what is gathered decides
-  pub classified : (k : ℕ) → k < length states → (c : Clash) → Memᴰ c (conflicts k) → (scratch action reduce : List ℕ)
-      → classify_scratch ≤ length scratch → example_room ≤ length action → example_room ≤ length reduce
-      → classify_of u (conflict_of k c) scratch action reduce ≡ gathered_outcome (meaning u) (conflict_of k c) scratch action reduce (gather (meaning u) (conflict_of k c))
+  pub inside : (k : ℕ) → k < length states → (c : Clash) → Memᴰ c (conflicts k) → InTable (meaning u) c

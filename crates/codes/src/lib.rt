@@ -1,4 +1,4 @@
-// A trace's edges, one word each (specs/Codes), with a flag for each key: whether an equal edge is there is one bit. From the words a graph's, eight an edge, or a view straight.
+// A trace's edges, one word each (specs/Codes), with a flag for each key: whether an equal edge is there is one bit. From the words a graph's, eight an edge.
 
 #![tactic(auto)]
 
@@ -23,8 +23,6 @@ use bits::{is_set, put};
 use lr1_core::Item;
 use repr::{Grammar, ProductionIndex, word};
 use trace_graph::{Full, Node, TraceEdge, TraceGraph, same_label, write_edge};
-
-pub mod viewing;
 
 // The kinds of a trace's edges, by their ends.
 #[derive(Clone, Copy)]

@@ -9,8 +9,8 @@ use Rattle.slices.specs.Lent.{in_front}
 use Rattle.repr.specs.Lists.{up_from, below, joined}
 use Rattle.repr.specs.Meaning.{Table}
 use Rattle.repr.proofs.Lists.{below_last, joined_append}
-use Rattle.example.specs.Written.{put_at}
-use Rattle.example.proofs.Put.{put_front, Turn, turn_start, turn_room, turn_next, turn_end}
+use Rattle.slices.specs.Insert.{put_at}
+use Rattle.slices.proofs.Put.{put_front, Turn, turn_start, turn_room, turn_next, turn_end}
 use Rattle.build.specs.Canonical.{Clash}
 use Rattle.build.specs.States.{clashes}
 use Rattle.build.specs.Built.{clash_words, conflict_words}

@@ -4,7 +4,7 @@
 
 ghost use Rattle.std.specs.Prelude.{◌≡◌, ◌+◌, ◌≤◌, ◌<◌, length};
 ghost use Rattle.slices.specs.Lent.{in_front};
-ghost use Rattle.example.specs.Written.{put_at};
+ghost use Rattle.slices.specs.Insert.{put_at};
 ghost use Rattle.build.specs.Built.{conflict_words};
 ghost use Rattle.measuring.specs.Complete.{Collection};
 ghost use Rattle.conflict_list.specs.Listed.{state_words};

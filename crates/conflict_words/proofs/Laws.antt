@@ -6,8 +6,8 @@ use native.Mathlib.Omega.{arith}
 use Rattle.repr.specs.Lists.{up_from, joined}
 use Rattle.repr.proofs.Lists.{joined_nil, joined_cons, joined_append}
 use Rattle.lookahead.specs.Tokens.{meet, members}
-use Rattle.example.specs.Written.{put_at}
-use Rattle.example.proofs.Put.{Turn, turn_start, turn_room, turn_next, turn_end}
+use Rattle.slices.specs.Insert.{put_at}
+use Rattle.slices.proofs.Put.{Turn, turn_start, turn_room, turn_next, turn_end}
 use Rattle.build.specs.Built.{clash_words}
 use Rattle.clashing.specs.Clashes.{shift_clash, reduce_clash}
 use Rattle.conflict_counts.specs.Clashed.{pairs_in, clashes_in}

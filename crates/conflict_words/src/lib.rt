@@ -7,7 +7,7 @@ ghost use Rattle.repr.specs.Sizes.{index_limit, state_limit};
 ghost use Rattle.repr.specs.Lists.{up_from, below, joined};
 ghost use Rattle.repr.specs.Meaning.{Table};
 ghost use Rattle.lookahead.specs.Tokens.{members};
-ghost use Rattle.example.specs.Written.{put_at};
+ghost use Rattle.slices.specs.Insert.{put_at};
 ghost use Rattle.build.specs.States.{clashes};
 ghost use Rattle.build.specs.Built.{clash_words};
 ghost use Rattle.closing.specs.Grammar.{OfTable};

@@ -6,8 +6,7 @@ ghost use Rattle.std.specs.Prelude.{◌≡◌, [], ◌∷◌, eqb, slice_index_o
 ghost use Rattle.error.specs.Numbers.{number_of_class, values_of_class};
 
 use lookahead::TokenSet;
-use repr::{NonterminalString, ProductionIndex};
-use state_graph::StateIndex;
+use repr::{NonterminalString, ProductionIndex, StateIndex};
 
 // A conflict as document 01 has it, five words: the action is 0 for a shift, its operand a terminal, or 1 for a reduce, its operand a production. No enum, as any number can be asked and is refused only behind what is wrong with the table.
 #[derive(Clone, Copy)]

@@ -4,8 +4,8 @@ use Rattle.repr.specs.Lists.{joined}
 use Rattle.repr.proofs.Lists.{joined_append}
 use Rattle.example.specs.Example.{Label}
 use Rattle.example.specs.Labels.{labels_in}
-use Rattle.example.specs.Written.{put_at}
-use Rattle.example.proofs.Put.{stored_three}
+use Rattle.slices.specs.Insert.{put_at}
+use Rattle.slices.proofs.Put.{stored_three}
 
 -- a label's words
 unfoldable pub label_words : Label → List ℕ

@@ -1,6 +1,5 @@
 pub mod Sizes
 pub mod LabelList
-pub mod Put
 pub mod Parts
 pub mod Reductions
 pub mod Walk

@@ -1,6 +1,5 @@
--- How the code writes an example (part 7 of document 01): lists of symbols as parts of the packed words, words put into a buffer at a place, and the
--- reductions innermost first, each from the labels around it. Assumes nothing: these are definitions.
-use Rattle.std.specs.Prelude.{◌≡◌, ℕ, ◌+◌, ◌-◌, true, List, [], ◌∷◌, ◌++◌, map, length, take, drop, slice_index_or}
+-- How the code writes an example: lists of symbols as parts of the packed words, and the reductions innermost first, each from the labels around it. Assumes nothing: these are definitions.
+use Rattle.std.specs.Prelude.{◌≡◌, ℕ, ◌-◌, true, List, [], ◌∷◌, map, length, slice_index_or}
 use Rattle.repr.specs.Sizes.{nonterminal_limit, terminal_limit}
 use Rattle.repr.specs.Lists.{joined}
 use Rattle.repr.specs.Meaning.{Symbol, Production}
@@ -23,10 +22,6 @@ words_of xs = joined symbol_words (map symbol xs)
 pub record Part (ws : List ℕ) (xs : List Symbol) : Type 0 where
   pub words : ws ≡ words_of xs
   pub fits : list_is_fit nonterminal_limit terminal_limit ws ≡ true
-
--- words put into a list at a place, the rest untouched
-unfoldable pub put_at : ℕ → List ℕ → List ℕ → List ℕ
-put_at at new old = take at old ++ (new ++ drop (at + length new) old)
 
 -- a reduction starts after the prefixes of the labels around it, and ends before their suffixes; n places in all
 unfoldable pub around : List Production → ℕ → List Label → List Reduction

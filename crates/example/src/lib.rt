@@ -11,7 +11,8 @@ ghost use Rattle.first.specs.First.{first0};
 ghost use Rattle.example.specs.Example.{sets_of, prefixes, suffixes, middle, symbols, symbol_words, example_words, cursor_of, ahead, asked_parts, asked_of};
 ghost use Rattle.example.specs.Labels.{labels_in, LabelsFit};
 ghost use Rattle.example.specs.Props.{LabelsFit-prop};
-ghost use Rattle.example.specs.Written.{label_at, words_of, Part, put_at, around_words};
+ghost use Rattle.slices.specs.Insert.{put_at};
+ghost use Rattle.example.specs.Written.{label_at, words_of, Part, around_words};
 
 use first::{Answer, FirstSets};
 use lookahead::TokenSet;

@@ -13,3 +13,5 @@ pub mod Shifts
 pub mod Actions
 pub mod Seeking
 pub mod Again
+pub mod Views
+pub mod Opened

@@ -2,6 +2,8 @@
 
 #![tactic(auto)]
 
+mod viewing;
+
 ghost use Rattle.std.specs.Prelude.{OnOk, OnErr, ◌≡◌, ℕ, ◌<◌, ◌≤◌, true, false, List, [], ◌++◌, length, drop};
 ghost use Rattle.repr.specs.Sizes.{grammar_room, edge_limit, trial_limit, example_limit, example_room};
 ghost use Rattle.slices.specs.Lent.{in_front};
@@ -29,7 +31,7 @@ ghost use Rattle.examples.specs.Gathers.{ListedOn, Sided, shifts, shift_made, re
 ghost use Rattle.tracer.specs.declared.Action.TheVariants.{Reduce};
 ghost use Rattle.examples.specs.Again.{Listed, Finds};
 
-use codes::viewing::view_codes;
+use crate::viewing::view_codes;
 use codes::{EdgeCodes, least_productions};
 use error::Conflict;
 use example::Example;

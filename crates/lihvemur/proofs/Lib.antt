@@ -3,3 +3,4 @@ pub mod Listed
 pub mod Reported
 pub mod Marked
 pub mod Accuracy
+pub mod Classified

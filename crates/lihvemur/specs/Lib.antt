@@ -3,3 +3,4 @@ pub mod Listings
 pub mod Reports
 pub mod TableC
 pub mod Accuracy
+pub mod Classified

@@ -11,10 +11,12 @@ use Rattle.trace_graph.specs.Words.{edge_at, edges_in}
 use Rattle.trace_graph.specs.Fits.{edge_is_fit}
 use Rattle.trace_graph.specs.Index.{bucket_number, in_bucket, bucket_limit}
 use Rattle.trace_graph.specs.Values.{edge_is, value_fits, SmallEdge, edge_read, value_words, written, first_edges}
-use Rattle.trace_graph.specs.Insert.{Graphed, chained, with_one_more, add_words, Added, Overfull}
+use Rattle.hash_index.specs.Chains.{chained}
+use Rattle.trace_graph.specs.Insert.{Graphed, with_one_more, add_words, Added, Overfull}
 use Rattle.trace_graph.proofs.Words.{fits_read, edge_kept, fits_kept, edge_value, own_value, more_is, more_long, more_count, more-read, more_edge, more-other, edges_first, edges_more}
 use Rattle.trace_graph.proofs.Fits.{value_small}
-use Rattle.trace_graph.proofs.Index.{newest-kept, bucket_kept, index_linked}
+use Rattle.hash_index.proofs.Chains.{newest-kept}
+use Rattle.trace_graph.proofs.Index.{bucket_kept, index_linked}
 
 -- a test's two ways in `add` and `add_words`
 module _ (ps : List Production) (e : TraceEdge) where

@@ -6,6 +6,7 @@ use Rattle.repr.specs.Meaning.{Symbol, nonterminal, terminal, Production, no_pro
 use Rattle.trace_graph.specs.Graph.{Node, at_nonterminal, at_item, TraceEdge}
 use Rattle.trace_graph.specs.Words.{edge_at}
 use Rattle.trace_graph.specs.Fits.{item_is_fit}
+use Rattle.hash_index.specs.Chains.{newest, Linked}
 
 -- nodes, which are the nonterminals and then the items
 abbrev pub node_limit : ℕ
@@ -40,16 +41,6 @@ bucket_number ps e =
 -- edge j is in bucket b
 unfoldable pub in_bucket : List Production → List ℕ → ℕ → ℕ → Bool
 in_bucket ps ws b j = bucket_number ps (edge_at ws j) == b
-
--- of the first k edges those that pass a test, newest first
-unfoldable pub newest : (ℕ → Bool) → ℕ → List ℕ
-newest t zero = []
-newest t (suc k) = elim (t k) [ true ↦ k ∷ newest t k | false ↦ newest t k ]
-
--- the edges that are linked from a word on, by the words of the edges from `links` on
-unfoldable pub Linked : List ℕ → ℕ → ℕ → List ℕ → Type 0
-Linked ix links h [] = h ≡ 0
-Linked ix links h (k ∷ ks) = (h ≡ suc k) × Linked ix links (slice_index ix (links + k)) ks
 
 -- a node of a table with n nonterminals and productions ps
 unfoldable pub InRange : ℕ → List Production → Node → Type 0

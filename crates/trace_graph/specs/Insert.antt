@@ -18,10 +18,6 @@ pub record Graphed (n : ℕ) (ps : List Production) (ws ix : List ℕ) (k : ℕ)
   pub fits : (j : ℕ) → j < k → edge_is_fit n ps ws j ≡ true
   pub index : Indexed ps ws ix k
 
--- edge k put in front of the chain that begins at the word `head` and goes on by the words from `links` on
-unfoldable pub chained : List ℕ → ℕ → ℕ → ℕ → List ℕ
-chained ix links head k = slice_set (slice_set ix (links + k) (slice_index ix head)) head (k + 1)
-
 -- a graph whose count is k, with an edge more
 unfoldable pub with_one_more : List ℕ → ℕ → TraceEdge → List ℕ
 with_one_more ws k e = slice_set (written ws k (edge_words e)) 0 (k + 1)

@@ -14,7 +14,8 @@ ghost use Rattle.trace_graph.specs.Fits.{item_is_fit, edge_is_fit, graph_fits};
 ghost use Rattle.trace_graph.specs.Index.{number_of_node, mixed, bucket_number, node_limit, bucket_limit, index_room};
 ghost use Rattle.trace_graph.specs.Values.{node_is, edge_is, node_value_fits, value_fits, SmallNode, SmallEdge, node_read, edge_read, value_words, written, first_edges};
 ghost use Rattle.trace_graph.specs.Nodes.{graph_node, node_value};
-ghost use Rattle.trace_graph.specs.Insert.{Graphed, chained, Added, Overfull, fresh};
+ghost use Rattle.hash_index.specs.Chains.{chained};
+ghost use Rattle.trace_graph.specs.Insert.{Graphed, Added, Overfull, fresh};
 
 use lr1_core::Item;
 use repr::{Grammar, NonterminalString, ProductionIndex, Refusal, Symbol, word};

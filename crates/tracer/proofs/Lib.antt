@@ -14,4 +14,3 @@ pub mod Whole
 pub mod Words
 pub mod Ways
 pub mod Traced
-pub mod Opened

@@ -14,8 +14,7 @@ use borrow.Author.Tests.{eqb-true, eqb-false, ltb-true, ltb-false, lt-ltb, le-lt
 use Rattle.slices.specs.Same.{same_words}
 use Rattle.repr.specs.Lists.{joined}
 use Rattle.repr.proofs.Lists.{cases, clash}
-use Rattle.trace_graph.specs.Index.{newest, Linked}
-use Rattle.trace_graph.specs.Insert.{chained}
+use Rattle.hash_index.specs.Chains.{newest, Linked, chained}
 use Rattle.yacc_text.specs.Grammar.{Id, named, quoted, Token, ident, Layout, text_limit, byte_limit}
 use Rattle.yacc_text.specs.Places.{Placed as Spot, placed, placed_from}
 use Rattle.yacc_text.specs.Parse.{parse}

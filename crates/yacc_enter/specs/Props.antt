@@ -1,7 +1,7 @@
 -- No two proofs that ids are entered differ, so that a struct may hold one. Assumes nothing.
 use Rattle.std.specs.Prelude.{ℕ, ◌+◌, List, [], ◌∷◌, slice_index}
 use Rattle.std.proofs.Props.{props}
-use Rattle.trace_graph.specs.Index.{Linked}
+use Rattle.hash_index.specs.Chains.{Linked}
 use Rattle.yacc_enter.specs.declared.Ids.{Ids}
 use Rattle.yacc_enter.specs.Ids.{Kept, Named}
 

@@ -14,9 +14,8 @@ use borrow.Author.Tests.{eqb-true, eqb-false, eq-eqb, leb-true, leb-false}
 use Rattle.slices.specs.Same.{same_words}
 use Rattle.slices.proofs.Same.{same_words_eq}
 use Rattle.repr.proofs.Lists.{cases}
-use Rattle.trace_graph.specs.Index.{newest, Linked}
-use Rattle.trace_graph.specs.Insert.{chained}
-use Rattle.trace_graph.proofs.Index.{newest-yes, newest_no, newest-kept, linked_top, linked_step, chained_long, chain_joined, chain_beside}
+use Rattle.hash_index.specs.Chains.{newest, Linked, chained}
+use Rattle.hash_index.proofs.Chains.{newest-yes, newest_no, newest-kept, linked_top, linked_step, chained_long, chain_joined, chain_beside}
 use Rattle.yacc_names.specs.Names.{bucket_limit, mixed, bucket_number, name_in, in_bucket, is_name, latest, Entered, left, placed_by, placing}
 
 -- bytes from a place up to another

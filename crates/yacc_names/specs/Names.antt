@@ -3,8 +3,7 @@
 use Rattle.std.specs.Prelude.{ℕ, zero, suc, ◌+◌, ◌*◌, ◌%◌, ◌≤◌, ◌<◌, Bool, true, false, List, [], ◌∷◌, Option, Some, None, length, get_or, set, eqb}
 use Rattle.std.proofs.Math.Seq.{slice}
 use Rattle.slices.specs.Same.{same_words}
-use Rattle.trace_graph.specs.Index.{newest, Linked}
-use Rattle.trace_graph.specs.Insert.{chained}
+use Rattle.hash_index.specs.Chains.{newest, Linked, chained}
 use Rattle.yacc_names.specs.declared.Placed.{Placed}
 
 abbrev pub bucket_limit : ℕ

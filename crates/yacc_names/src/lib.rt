@@ -5,7 +5,7 @@
 
 ghost use Rattle.std.specs.Prelude.{◌≡◌, ◌+◌, ◌*◌, ◌%◌, ◌≤◌, ◌<◌, length, set};
 ghost use Rattle.std.proofs.Math.Seq.{slice};
-ghost use Rattle.trace_graph.specs.Insert.{chained};
+ghost use Rattle.hash_index.specs.Chains.{chained};
 ghost use Rattle.yacc_names.specs.Names.{bucket_limit, bucket_number, held, is_name, latest, Entered, left, placing};
 
 use repr::word;

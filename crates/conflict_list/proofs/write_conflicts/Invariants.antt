@@ -1,6 +1,6 @@
 use Rattle.conflict_list.proofs.Laws.{rest}
 use Rattle.measuring.specs.Complete.{Collection}
-use Rattle.example.proofs.Put.{Turn}
+use Rattle.slices.proofs.Put.{Turn}
 use Rattle.build.specs.Built.{conflict_words}
 use lib.ListN.{length}
 use Prim.Native.Nat.{◌≤◌}

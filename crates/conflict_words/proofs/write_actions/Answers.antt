@@ -1,7 +1,7 @@
 use Rattle.conflict_words.proofs.Laws.{state_words_lem, state_none, state_room}
 use Rattle.conflict_counts.proofs.Counts.{joined_start}
 use Rattle.conflict_counts.specs.Clashed.{clashes_in}
-use Rattle.example.proofs.Put.{turn_start, turn_next, turn_end}
+use Rattle.slices.proofs.Put.{turn_start, turn_next, turn_end}
 use Rattle.build.specs.Built.{clash_words}
 use Rattle.repr.specs.Lists.{joined}
 use mathlib.Core.Path.{ap}

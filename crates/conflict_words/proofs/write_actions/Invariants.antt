@@ -1,5 +1,5 @@
 use Rattle.conflict_counts.specs.Clashed.{clashes_in}
-use Rattle.example.proofs.Put.{Turn}
+use Rattle.slices.proofs.Put.{Turn}
 use Rattle.build.specs.Built.{clash_words}
 use Rattle.repr.specs.Lists.{up_from, below, joined}
 use Rattle.std.specs.Prelude.{◌-◌}

@@ -1,7 +1,7 @@
 use Rattle.std.proofs.Common.{◌≡◌, ℕ, ◌+◌, ◌-◌, ◌++◌, List, take, ap, ◌∙◌, arith, drop-drop}
 use borrow.Rule.Slice.PartMut.{put_mid}
 use Rattle.conflict_words.specs.Tokens.{token_words}
-use Rattle.example.specs.Written.{put_at}
+use Rattle.slices.specs.Insert.{put_at}
 use Rattle.conflict_words.proofs.write_one.Goals as goal
 
 pub returns : goal.returns

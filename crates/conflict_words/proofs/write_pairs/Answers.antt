@@ -1,5 +1,5 @@
 use Rattle.conflict_words.proofs.Laws.{pair_words_lem, pair-none, pair-room}
-use Rattle.example.proofs.Put.{turn_start, turn_next, turn_end}
+use Rattle.slices.proofs.Put.{turn_start, turn_next, turn_end}
 use mathlib.Core.Path.{refl}
 use native.Mathlib.Omega.{arith}
 use Rattle.conflict_words.proofs.write_pairs.Goals as goal

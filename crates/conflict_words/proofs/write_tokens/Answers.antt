@@ -3,7 +3,7 @@ use Rattle.conflict_words.specs.Tokens.{token_words}
 use Rattle.repr.specs.Lists.{joined}
 use Rattle.repr.proofs.Lists.{joined_nil}
 use Rattle.conflict_words.proofs.Laws.{tokens-room, tokens-more}
-use Rattle.example.proofs.Put.{turn_start, turn_end}
+use Rattle.slices.proofs.Put.{turn_start, turn_end}
 use Rattle.conflict_words.proofs.write_tokens.Goals as goal
 
 pub loop-token-init : goal.loop-token-init

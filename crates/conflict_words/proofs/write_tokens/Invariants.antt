@@ -1,5 +1,5 @@
 use Rattle.conflict_words.specs.Tokens.{token_words}
-use Rattle.example.proofs.Put.{Turn}
+use Rattle.slices.proofs.Put.{Turn}
 use Rattle.lookahead.specs.Tokens.{members}
 use Rattle.repr.specs.Lists.{joined}
 use Rattle.conflict_words.proofs.write_tokens.Given as goal

@@ -1,6 +1,6 @@
 use Rattle.std.proofs.Common.{◌≡◌, ℕ, ◌+◌, ◌-◌, ◌++◌, List, length, take, ap, ◌∙◌, arith, drop-drop}
 use borrow.Rule.Slice.PartMut.{put_mid}
-use Rattle.example.specs.Written.{put_at}
+use Rattle.slices.specs.Insert.{put_at}
 use Rattle.example.proofs.copy.Goals as goal
 
 pub returns : goal.returns

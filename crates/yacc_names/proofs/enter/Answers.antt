@@ -1,4 +1,4 @@
-use Rattle.trace_graph.specs.Insert.{chained}
+use Rattle.hash_index.specs.Chains.{chained}
 use lib.ListN.{length-set}
 use native.Mathlib.Omega.{arith}
 use borrow.Author.Rules.{rules}

@@ -5,7 +5,7 @@ use Rattle.example.specs.Example.{prefixes, suffixes, middle, symbols, symbol_wo
 use Rattle.example.specs.Labels.{labels_in}
 use Rattle.example.specs.Written.{words_of, around_words}
 use Rattle.example.proofs.LabelList.{few_labels}
-use Rattle.example.proofs.Put.{put_front, turn_start, turn_room, turn_more, turn_next, turn_end}
+use Rattle.slices.proofs.Put.{put_front, turn_start, turn_room, turn_more, turn_next, turn_end}
 use Rattle.example.proofs.Reductions.{around-length}
 use Rattle.example.proofs.Walk.{around_few, words_1158, example-parts, after_counts, after_prefixes, after_middle, after_suffixes}
 use Rattle.example.proofs.Labels.write_example.Goals as goal

@@ -2,8 +2,8 @@ use Rattle.std.proofs.Common.{ℕ, List, length, sym, ap, ◌∙◌, arith}
 use Rattle.repr.proofs.Lists.{joined_nil}
 use Rattle.example.specs.Example.{symbol_words}
 use Rattle.repr.specs.Lists.{joined}
-use Rattle.example.specs.Written.{put_at}
-use Rattle.example.proofs.Put.{put-nil}
+use Rattle.slices.specs.Insert.{put_at}
+use Rattle.slices.proofs.Put.{put-nil}
 use Rattle.example.proofs.Labels.write_middle.Goals as goal
 
 pub returns-in-None : goal.returns-in-None

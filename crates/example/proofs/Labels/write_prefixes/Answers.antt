@@ -3,7 +3,7 @@ use Rattle.repr.specs.Packed.{productions_in}
 use Rattle.example.specs.Example.{prefixes}
 use Rattle.example.specs.Labels.{labels_in}
 use Rattle.example.specs.Written.{words_of}
-use Rattle.example.proofs.Put.{turn_room, turn_more, turn_end}
+use Rattle.slices.proofs.Put.{turn_room, turn_more, turn_end}
 use Rattle.example.proofs.Walk.{prefix_turn, prefix-done}
 use Rattle.example.proofs.Labels.write_prefixes.Goals as goal
 

@@ -3,7 +3,7 @@ use Rattle.repr.specs.Packed.{productions_in}
 use Rattle.example.specs.Example.{prefixes}
 use Rattle.example.specs.Labels.{labels_in}
 use Rattle.example.specs.Written.{words_of}
-use Rattle.example.proofs.Put.{Turn}
+use Rattle.slices.proofs.Put.{Turn}
 use Rattle.example.proofs.Labels.write_prefixes.Given as goal
 
 abbrev pub invariant-loop-label : goal.invariant-loop-label

@@ -2,7 +2,7 @@ use Rattle.std.proofs.Common.{◌<◌, [], ◌∷◌, length, refl, arith}
 use Rattle.repr.specs.Packed.{productions_in}
 use Rattle.example.specs.Labels.{labels_in}
 use Rattle.example.proofs.Sizes.{length_symbols}
-use Rattle.example.proofs.Put.{turn_start, turn_room, turn_more, turn_end}
+use Rattle.slices.proofs.Put.{turn_start, turn_room, turn_more, turn_end}
 use Rattle.example.proofs.Reductions.{around-length}
 use Rattle.example.proofs.Walk.{around_few, prefix-step, prefix-left, around-next, around_turn, around-done}
 use Rattle.example.proofs.Labels.write_reductions.Goals as goal

@@ -1,9 +1,9 @@
--- Laws of words put into a list at a place (`put_at` of specs/Written): a copy, a few stores, one part after the other. Assumes nothing.
+-- Laws of words put into a list at a place (`put_at` of specs/Insert): a copy, a few stores, one part after the other. Assumes nothing.
 use Rattle.std.proofs.Common.{◌≡◌, ℕ, ◌+◌, ◌≤◌, List, [], ◌∷◌, ◌++◌, length, take, drop, set, sym, refl, ap, ◌∙◌, append_assoc, zero-add, add-one, arith, length-append, length-drop, take-append-drop, length-take, length-take-le, drop-drop, take_at, drop_at}
 use native.Mathlib.Numerals.{add-two}
 use lib.Seq.{sets-eq}
 use Rattle.slices.specs.Lent.{in_front}
-use Rattle.example.specs.Written.{put_at}
+use Rattle.slices.specs.Insert.{put_at}
 
 pub put-nil : (at : ℕ) (old : List ℕ) → put_at at [] old ≡ old
 unfolding put_at

@@ -1,4 +1,4 @@
-// A view and the labels of a trace (request 06), straight from its edges' words: no graph's words are made.
+// A view and the labels of a trace, straight from its edges' words: no graph's words are made.
 ghost use Rattle.std.specs.Prelude.{List, drop};
 ghost use Rattle.repr.specs.Meaning.{Table};
 ghost use Rattle.trace_graph.specs.Graph.{TraceEdge};
@@ -6,7 +6,7 @@ ghost use Rattle.view.specs.Blank.{Blank};
 ghost use Rattle.view.specs.View.{View, Labelled};
 ghost use Rattle.codes.specs.Carried.{Carried};
 
-use crate::edge_of;
+use codes::edge_of;
 use lr1_core::Item;
 use repr::{Grammar, word};
 use view::making::{ViewLists, slot, source};

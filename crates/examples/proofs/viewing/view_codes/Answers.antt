@@ -1,7 +1,7 @@
 use Rattle.std.proofs.Common.{arith}
 use Rattle.codes.proofs.Writing.{carried_few, carried_code}
-use Rattle.codes.proofs.Views.{making_first, making_source, making_target, making_place, making_low, making_more, making_done}
-use Rattle.codes.proofs.viewing.view_codes.Goals as goal
+use Rattle.examples.proofs.Views.{making_first, making_source, making_target, making_place, making_low, making_more, making_done}
+use Rattle.examples.proofs.viewing.view_codes.Goals as goal
 
 pub word-count-requires : goal.word-count-requires
 word-count-requires c = let C = c.requires.carried.1.1 in omega (arith, C.long)
