@@ -16,7 +16,7 @@ use Rattle.repr.proofs.Lists.{cases, get_d_map-below}
 use Rattle.repr.proofs.Fronts.{same_part, same_word}
 use Rattle.repr.proofs.Listed.{drop_two}
 use Rattle.spelling.proofs.Meaning.{map-below-is}
-use Rattle.grammar_records.proofs.Packed.{many_packed}
+use Rattle.repr.proofs.Packed.{productions_long}
 
 -- six words from b on, one after the other
 module _ (g : List ℕ) (b x z : ℕ) where
@@ -171,7 +171,7 @@ module _ (g : List ℕ) (m owner n : ℕ) (P : Packed g m) (few : m < production
   pub appended_is : productions_in after (m + 1) ≡ productions_in g m ++ added ∷ []
   unfolding productions_in
   appended_is =
-      let l = many_packed g m in
+      let l = productions_long g m in
       let a = length-append (productions_in g m) (added ∷ []) in
       map-below-is (production_in after) (m + 1) (productions_in g m ++ added ∷ []) no_production (omega arith)
       (λ i h.

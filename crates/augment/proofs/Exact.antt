@@ -15,7 +15,6 @@ use Rattle.repr.specs.Lists.{below, mem}
 use Rattle.repr.specs.Meaning.{Table, TableFits, production_at}
 use Rattle.repr.specs.declared.ProductionIndex.{ProductionIndex}
 use Rattle.repr.proofs.Lists.{cases, mem-cons_here, mem_below, mem-keep}
-use Rattle.repr.proofs.Listed.{and_left, and_right}
 use Rattle.table.specs.Checked.{Accepted}
 use Rattle.table.specs.Decoded.{meaning}
 use Rattle.table.specs.Refusals.{check_of}
@@ -28,6 +27,7 @@ use Rattle.augment.specs.declared.Started.{Started}
 use Rattle.augment.specs.Started.{stands_in, owned_by, is_start_needed, augmented, full, Outcome, started_as, started_in, started_of, Startable, StartOf, Written}
 use Rattle.augment.proofs.Written.{few_records}
 use Rattle.augment.proofs.Augmented.{production_old, production_new, list_old, same_states, same_terminals, fits_more, ordered_more, start_new}
+use Rattle.laws.proofs.Bools.{or-none, and_left, and_right}
 
 -- the answer says what was written
 apart : (r k m : ℕ) (p : ProductionIndex) → refused k m ≡ started_as r p → ⊥
@@ -54,10 +54,6 @@ module _ (U : Table) (q r p : ℕ) (out ws : List ℕ) (e : started_in U q out �
       (ap (λ (s : Started). s.records) (same_started _ _ a), (ap (λ (s : Started). s.production.0) (same_started _ _ a), ap (λ (o : Outcome). o.out) z)))
       (λ f. absurd (apart _ _ _ _ (ap (λ (o : Outcome). o.answer) (sym (in_none f) ∙ e))))
 
-or-false : (a b : Bool) → (a || b) ≡ false → (a ≡ false) × (b ≡ false)
-or-false true b e = let o : ◌≡◌ {A = ℕ} 0 1 = cc in absurd (omega arith)
-or-false false b e = (refl, e)
-
 below_it : (a m : ℕ) → a ≤ m → (a ≡ m → ⊥) → a < m
 below_it a m h e = omega arith
 
@@ -71,7 +67,7 @@ module _ (T : Table) (n : ℕ) (F : TableFits T) (O : Ordered T) (R : Startable 
   module _ (e : is_start_needed T n ≡ false) where
     parts : (length (owned_by T n) ≡ 1) × (stands_in T n ≡ false)
     unfolding is_start_needed
-    parts = let w = or-false (not (eqb (length (owned_by T n)) 1)) (stands_in T n) e in (eqb-true (length (owned_by T n)) 1 (not-false _ w.0), w.1)
+    parts = let w = or-none (not (eqb (length (owned_by T n)) 1)) (stands_in T n) e in (eqb-true (length (owned_by T n)) 1 (not-false _ w.0), w.1)
 
     only : owned_by T n ≡ get_or (owned_by T n) 0 0 ∷ []
     only = one_of (owned_by T n) parts.0
@@ -141,7 +137,7 @@ module _ (T : Table) (n : ℕ) (F : TableFits T) (O : Ordered T) (R : Startable 
     full_no : full T ≡ false → (length T.nonterminals < nonterminal_limit) × (length T.productions < production_limit)
     unfolding full
     full_no e =
-        let w = or-false (eqb (length T.nonterminals) nonterminal_limit) (eqb (length T.productions) production_limit) e in
+        let w = or-none (eqb (length T.nonterminals) nonterminal_limit) (eqb (length T.productions) production_limit) e in
         let a = eqb-false (length T.nonterminals) nonterminal_limit w.0 in
         let b = eqb-false (length T.productions) production_limit w.1 in
         (below_it _ _ F.few_nonterminals a, below_it _ _ F.few_productions_lem b)

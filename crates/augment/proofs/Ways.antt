@@ -17,10 +17,7 @@ use Rattle.grammar_records.specs.Target.{PackedAs, owned_from}
 use Rattle.augment.specs.Started.{is_start_needed, augmented, full, Outcome, started_in, started_of, Startable, GrammarOf}
 use Rattle.augment.proofs.Wanted.{wanted-none, from_first}
 use Rattle.augment.proofs.Augmented.{nonterminals_long, productions_long, same_states, same_terminals, all-productions, fits_more}
-
-or_second : (x y : Bool) → y ≡ true → (x || y) ≡ true
-or_second true y e = refl
-or_second false y e = e
+use Rattle.laws.proofs.Bools.{or_second}
 
 full-productions : (T : Table) → length T.productions ≡ production_limit → full T ≡ true
 unfolding full

@@ -12,9 +12,9 @@ use borrow.Author.Tests.{eqb-true, eqb-false, eq-eqb, ne_eqb}
 use Rattle.repr.proofs.Lists.{cases}
 use Rattle.lookahead.specs.Tokens.{has, single, union}
 use Rattle.lookahead.proofs.Laws.{has-none, has-union, has-single}
-use Rattle.lookahead.proofs.Growing.{get_d_none}
 use Rattle.lookahead.proofs.Words.{contained, shifted}
 use Rattle.bits.specs.Bits.{bit_at, bit_put}
+use Rattle.laws.proofs.Lists.{zero_at}
 
 pub bit_tested : (hs : List ℕ) (r : ℕ) → eqb (bit_and (get_or hs (r / 64) 0 / 2 ^ (r % 64)) 1) 1 ≡ bit_at hs r
 unfolding bit_at
@@ -51,4 +51,4 @@ put_other hs r j i ne =
 
 pub zeros_none : (n j : ℕ) → bit_at (replicate n 0) j ≡ false
 unfolding bit_at
-zeros_none n j = rw (get_d_none n (j / 64)) (has-none (j % 64))
+zeros_none n j = rw (zero_at n (j / 64)) (has-none (j % 64))

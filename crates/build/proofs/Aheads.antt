@@ -11,7 +11,6 @@ use lib.ListN.{length, get_or, replicate, length-append, length-replicate, get_o
 use lib.Seq.{get_or-append-add}
 use borrow.Author.Tests.{eqb-true, eqb-false, eq-eqb, ne_eqb, ltb-true, ltb-false}
 use Rattle.repr.specs.Sizes.{index_limit}
-use Rattle.lookahead.proofs.Growing.{get_d_none}
 use Rattle.repr.specs.Lists.{below, joined}
 use Rattle.repr.specs.Meaning.{Symbol, nonterminal, terminal, Item, Table, production_at, SymbolFits, All, TableFits}
 use Rattle.repr.proofs.Lists.{cases, clash, length-map-below, get_d_map-below}
@@ -26,6 +25,7 @@ use Rattle.build.proofs.Members.{below-mem, mem_less, joined_mem, joined_from}
 use Rattle.build.proofs.Rounds.{Sized, MoveFits, grown-cases, grown-other, grown_sized, round_sized, settle-keeps, settle_sized, rest-closed}
 use Rattle.build.proofs.Closure.{item, item_code_lem, tokens_at, tokens_index, tokens-item, has-inside, behind_fit, rust_lt, All-by-member, first_in, first_out}
 use Rattle.build.proofs.Shortcuts.{closure_unique}
+use Rattle.laws.proofs.Lists.{zero_at}
 
 -- the moves
 
@@ -140,7 +140,7 @@ module _ (T : Table) (F : TableFits T) where
     begin_at x h = get_or-append S (replicate 32 0) 0 x (rw z.long h)
 
     begin-none : (n : ℕ) → get_or (S ++ replicate 32 0) (places T + n) 0 ≡ 0
-    begin-none n = ap (λ (k : ℕ). get_or (S ++ replicate 32 0) (k + n) 0) (sym z.long) ∙ get_or-append-add S (replicate 32 0) n 0 ∙ get_d_none 32 n
+    begin-none n = ap (λ (k : ℕ). get_or (S ++ replicate 32 0) (k + n) 0) (sym z.long) ∙ get_or-append-add S (replicate 32 0) n 0 ∙ zero_at 32 n
 
     pub begin_sized : Sized (places T + 32) (S ++ replicate 32 0)
     begin_sized = record {

@@ -15,7 +15,6 @@ use Rattle.repr.specs.Reply.{answered as told, refused as declined}
 use Rattle.table.specs.Checked.{Checked, Accepted, Refused as NotAccepted}
 use Rattle.table.specs.Decoded.{meaning}
 use Rattle.table.specs.Refusals.{check_of}
-use Rattle.table.proofs.Chains.{and-true}
 use Rattle.table.proofs.Decoding.{fits}
 use Rattle.spelling.specs.Spelled.{edge_lists, records_of, spell}
 use Rattle.spelling.proofs.Places.{spell-length}
@@ -35,6 +34,7 @@ use Rattle.builder.specs.Canonical.{set_of, IsCanonical}
 use Rattle.builder.specs.declared.Built.{Built}
 use Rattle.builder.proofs.Written.{edges_are, build_accepted, build-meaning, build_spelling}
 use Rattle.builder.proofs.Ways.{in_short, in_unfit, build-refused, build_checked}
+use Rattle.laws.proofs.Bools.{and-true}
 
 -- what was found, in the book's terms
 

@@ -15,7 +15,6 @@ use Rattle.repr.specs.Packed.{productions_in}
 use Rattle.repr.proofs.Lists.{length_mapped, length-map-below, get_d_map, get_d_map-below}
 use Rattle.slices.specs.Lent.{in_front, zeroed}
 use Rattle.spelling.specs.Spelled.{size_of, symbol_lists, item_lists, states_at, productions_at, symbols_at, items_place, edges_at, records_of, spell}
-use Rattle.table.proofs.Chains.{and-true}
 use Rattle.first.specs.First.{sets_of_first}
 use Rattle.closing.specs.Grammar.{OfTable}
 use Rattle.build.specs.States.{built, written}
@@ -44,6 +43,7 @@ use Rattle.state_records.specs.Rows.{item_of, ItemsIn, EdgesIn}
 use Rattle.builder.specs.Outcome.{build_scratch, start_is_fit, conflict_count, built_of}
 use Rattle.builder.specs.Ended.{SizesOf, Ended, Laid}
 use Rattle.builder.proofs.Written.{size-map, items_are, edges_are, records_are}
+use Rattle.laws.proofs.Bools.{and-true}
 
 -- the numbers
 

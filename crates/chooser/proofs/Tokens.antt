@@ -18,7 +18,7 @@ use Rattle.repr.proofs.Lists.{keep-nil, keep-yes, keep_no, keep_append, cases}
 use Rattle.lookahead.specs.Tokens.{has, members}
 use Rattle.lookahead.proofs.Laws.{has-below}
 use Rattle.lookahead.proofs.Members.{members_few}
-use Rattle.trace_graph.proofs.Bools.{and_left, and_right}
+use Rattle.laws.proofs.Bools.{and_left, and_right}
 use Rattle.error.specs.declared.Conflict.{Conflict}
 use Rattle.error.specs.declared.Class.{Class}
 use Rattle.error.specs.declared.Classification.{Classification}

@@ -19,7 +19,7 @@ use Rattle.repr.specs.Meaning.{Production, Table, All}
 use Rattle.slices.specs.Lent.{in_front, zeroed}
 use Rattle.slices.proofs.Lent.{zeroed_lent}
 use Rattle.table.specs.Index.{CountsOf}
-use Rattle.trace_graph.proofs.Bools.{and_left, and_right}
+use Rattle.laws.proofs.Bools.{and_left, and_right}
 use Rattle.example.specs.Example.{example_words}
 use Rattle.error.specs.declared.Conflict.{Conflict}
 use Rattle.error.specs.declared.Class.{Class}

@@ -6,20 +6,11 @@ use Rattle.repr.specs.Packed.{Packed, symbol_words, production_in, productions_i
 use Rattle.repr.proofs.Lists.{get_d_map-below}
 use Rattle.repr.proofs.Listed.{fits_head}
 use Rattle.closing.specs.Grammar.{OfTable}
+use Rattle.repr.proofs.Parts.{fits-drop}
 
 pub production_at_lem : (T : Table) (g : List ℕ) (n e : ℕ) (sets : List ℕ) → OfTable T g n e sets → (p : ℕ) → p < n → production_at T p ≡ production_in g p
 unfolding productions_in
 production_at_lem T g n e sets G p h = rw (← G.same) (get_d_map-below (production_in g) n p no_production h)
-
--- whole symbols from any of them on
-pub fits-drop : (n t i : ℕ) (ws : List ℕ) → list_is_fit n t ws ≡ true → list_is_fit n t (drop (2 * i) ws) ≡ true
-unfolding list_is_fit
-fits-drop n t zero ws h = h
-fits-drop n t (suc i) [] h = let e : 2 * suc i ≡ suc (suc (2 * i)) = omega arith in rw e refl
-fits-drop n t (suc i) (k ∷ []) h = let e : 2 * suc i ≡ suc (suc (2 * i)) = omega arith in rw e refl
-fits-drop n t (suc i) (k ∷ x ∷ ws) h =
-    let e : 2 * suc i ≡ suc (suc (2 * i)) = omega arith in
-    rw e (fits-drop n t i ws (fits_head n t (k ∷ x ∷ ws) 0 (omega arith) h).1.1)
 
 -- what stands behind the cursor is whole symbols
 pub suffix-fits : (g : List ℕ) (n p i : ℕ) → Packed g n → p < n → list_is_fit 32 63 (drop (2 * i + 2) (symbol_words g p)) ≡ true

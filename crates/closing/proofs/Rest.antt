@@ -7,7 +7,7 @@ use lib.ListN.{get_or-append, get_or-eq_default}
 use borrow.Author.Tests.{eqb-false}
 use Rattle.repr.specs.Sizes.{index_limit, item_limit, production_room}
 use Rattle.lookahead.proofs.Growing.{total}
-use Rattle.slices.proofs.Same.{same_words_eq}
+use Rattle.slices.proofs.Same.{same_words_eq, same_behind}
 use Rattle.slices.specs.Same.{same_words}
 use Rattle.repr.specs.Lists.{up_from, below, joined}
 use Rattle.repr.specs.Meaning.{Symbol, nonterminal, terminal, Production, Table, production_at, TableFits}
@@ -26,13 +26,6 @@ use Rattle.closing.proofs.Grammar.{production_at_lem}
 
 -- two lists, word by word
 
-pub same_pointwise : (xs ys : List ℕ) → pointwise eqb xs ys ≡ same_words xs ys
-unfolding same_words
-same_pointwise [] [] = refl
-same_pointwise [] (y ∷ ys) = refl
-same_pointwise (x ∷ xs) [] = refl
-same_pointwise (x ∷ xs) (y ∷ ys) = rw (same_pointwise xs ys) refl
-
 -- behind a front
 
 set-behind : (S A : List ℕ) (n v : ℕ) → set (S ++ A) (length S + n) v ≡ S ++ set A n v
@@ -40,11 +33,6 @@ set-behind [] A n v = let e : 0 + n ≡ n = omega arith in rw e refl
 set-behind (x ∷ S) A n v =
     let e : suc (length S) + n ≡ suc (length S + n) = omega arith in
     rw e (ap (λ (l : List ℕ). x ∷ l) (set-behind S A n v))
-
-same_behind : (S A B : List ℕ) → same_words (S ++ A) (S ++ B) ≡ same_words A B
-unfolding same_words
-same_behind [] A B = refl
-same_behind (x ∷ S) A B = rw (eq-eqb x x refl) (same_behind S A B)
 
 -- one round over both
 

@@ -8,13 +8,13 @@ use Rattle.repr.proofs.Lists.{cases, clash}
 use Rattle.repr.proofs.Tests.{All_at, first?-nil, first?-yes, first?_no, first?-below, first?-below-none}
 use Rattle.lr1_core.specs.Items.{symbol_sets, is_nonterminal, shifts_nonterminal}
 use Rattle.table.specs.Decoded.{or_zero}
-use Rattle.state_graph.proofs.Exact.{both_ways, and_both}
 use Rattle.trace_graph.specs.Graph.{Node, at_nonterminal, at_item, TraceEdge, label_of, same_symbols, is_same_edge}
 use Rattle.trace_graph.proofs.Labels.{symbols_equal, symbols_refl, sets_refl, label_parts, edge_parts, edge_same}
 use Rattle.trace.specs.Traced.{owner_of, symbols_of, can_shift}
 use Rattle.trace.specs.Sound.{owner_of_node, apart_ends, EdgeSound}
 use Rattle.trace.proofs.Traced.{fits-item}
 use Rattle.codes.specs.Codes.{kind_of, item_code, code_of, number_of, cursor_of, edge_by, item_in, edge_of, is_same_production, least_alike, key_by, key_of}
+use Rattle.laws.proofs.Bools.{agree, and-true}
 
 -- the nonterminal that an item can shift is the one at its cursor
 shift_number : (x : Option Symbol) (n : ℕ) → is_nonterminal n x ≡ true → n ≡ number_of x
@@ -103,7 +103,7 @@ same_parts : (ps : List Production) (p q : ℕ) → is_same_production ps p q �
     → ((get_or ps p no_production).nonterminal ≡ (get_or ps q no_production).nonterminal) × ((get_or ps p no_production).symbols ≡ (get_or ps q no_production).symbols)
 unfolding is_same_production
 same_parts ps p q e =
-    let r = and_both (eqb (get_or ps p no_production).nonterminal (get_or ps q no_production).nonterminal) (same_symbols (get_or ps p no_production).symbols (get_or ps q no_production).symbols) e in
+    let r = and-true (eqb (get_or ps p no_production).nonterminal (get_or ps q no_production).nonterminal) (same_symbols (get_or ps p no_production).symbols (get_or ps q no_production).symbols) e in
     (eqb-true (get_or ps p no_production).nonterminal (get_or ps q no_production).nonterminal r.0, symbols_equal (get_or ps p no_production).symbols (get_or ps q no_production).symbols r.1)
 
 pub same_refl : (ps : List Production) (p : ℕ) → is_same_production ps p p ≡ true
@@ -241,6 +241,6 @@ module _ (T : Table) (fits : TableFits T) where
 
     pub same_key : is_same_edge T.productions e f ≡ eqb (key_of T.productions (code_of e)) (key_of T.productions (code_of f))
     same_key =
-        both_ways (is_same_edge T.productions e f) (eqb (key_of T.productions (code_of e)) (key_of T.productions (code_of f)))
+        agree (is_same_edge T.productions e f) (eqb (key_of T.productions (code_of e)) (key_of T.productions (code_of f)))
         (λ h. eq-eqb (key_of T.productions (code_of e)) (key_of T.productions (code_of f)) (to_keys h))
         (λ h. from_keys (eqb-true (key_of T.productions (code_of e)) (key_of T.productions (code_of f)) h))

@@ -13,19 +13,16 @@ use Rattle.trace_graph.specs.Graph.{label_of, same_sets}
 use Rattle.trace_graph.specs.Fits.{item_is_fit}
 use Rattle.trace_graph.proofs.Labels.{same_label_is}
 use Rattle.trace.proofs.Steps.{packed_owner}
-use Rattle.lookahead.proofs.Growing.{get_d_none}
 use Rattle.codes.specs.Codes.{is_same_production, least_alike}
 use Rattle.codes.specs.Coded.{Leasts}
 use Rattle.codes.proofs.Keys.{same_refl}
-
-pub many : (g : List ℕ) (n : ℕ) → length (productions_in g n) ≡ n
-unfolding productions_in
-many g n = length-map-below (production_in g) n
+use Rattle.laws.proofs.Lists.{zero_at}
+use Rattle.repr.proofs.Packed.{productions_long}
 
 pub begins : (g : List ℕ) (n p : ℕ) → p < n → item_is_fit (productions_in g n) p 0 ≡ true
 unfolding item_is_fit
 begins g n p h =
-    let m = many g n in
+    let m = productions_long g n in
     rw (lt-ltb p (length (productions_in g n)) (omega arith)) (le-leb 0 (length (get_or (productions_in g n) p no_production).symbols) (omega arith))
 
 module _ (g : List ℕ) (n p q a b : ℕ) (hp : p < n) (hq : q < n) (ea : a ≡ get_or g (p * 36) 0) (eb : b ≡ get_or g (q * 36) 0) where
@@ -74,7 +71,7 @@ filling_start ps ls f e = record {
   few = f;
   within = omega arith;
   exact = λ j h. absurd (omega arith);
-  small = λ j h. rw (e, get_d_none 128 j) (omega arith);
+  small = λ j h. rw (e, zero_at 128 j) (omega arith);
 }
 
 pub filling_more : (ps : List Production) (ls : List ℕ) (p q : ℕ) → Filling ps ls p → p < length ps → q ≡ least_alike ps p → q < 128 → Filling ps (set ls p q) (p + 1)

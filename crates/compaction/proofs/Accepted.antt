@@ -9,13 +9,13 @@ use lib.Dec.{eqb, ltb, leb}
 use borrow.Author.Tests.{eqb-true, eqb-false, ne_eqb, ltb-true, le-ltb, leb-true, lt-leb, not-false}
 use Rattle.repr.specs.Lists.{below, mem, joined}
 use Rattle.repr.specs.Listed.{symbol_is_fit}
-use Rattle.repr.proofs.Lists.{cases, length_mapped, mem_below}
+use Rattle.repr.proofs.Lists.{cases, length_mapped, mem_below, joined_members}
 use Rattle.repr.proofs.Tests.{some?-below, some?-below_witness}
 use Rattle.table.specs.Checked.{Accepted}
 use Rattle.table.specs.Words.{word_at, records, nonterminals, terminals, states, productions, state_area, production_area, loose, loose_records, production_records, against}
 use Rattle.table.specs.Decoded.{production_chain, symbol_chain, item_chain, edge_chain}
 use Rattle.table.specs.Refusals.{row1, row2, row3, row4, row5, row6, row7, row8, used, is_nonterminal, is_state, is_production, as_symbol, as_item, as_edge, offends, check_of}
-use Rattle.table.proofs.Chains.{and-true, or-false, or_left, or_right, named, good_of}
+use Rattle.table.proofs.Chains.{or-false, or_left, or_right, named, good_of}
 use Rattle.table.proofs.ListLaws.{mem-map-out}
 use Rattle.table.proofs.Accepted.{Accepts, areas_of, nonterminal-place, state_place, production_place_lem, nonterminal-head, production-next, production-once, production_short, symbol_range, edge_range, item_range, target_range}
 use Rattle.table.proofs.Exact.{accepted_exact}
@@ -23,19 +23,9 @@ use Rattle.compaction.specs.Compaction.{reached, moved, count_of}
 use Rattle.compaction.proofs.Renumbered.{index_renumbered}
 use Rattle.compaction.proofs.Moves.{or-which, MovedTo, as_symbol_lem, as_item_lem, as_edge_lem, reached-place, reached-next, reached-closed, moved_rises}
 use Rattle.compaction.proofs.Chains.{same_nonterminals, same_terminals, same_states, same_productions, same_state_area, same_production-area, same_loose, same_production-records, renumbers, symbol_chain_lem, item_chain_lem, edge_chain_lem, symbol_index, item_index, edge_index, nonterminal-word, production-word, production_chain_lem}
-use Rattle.compaction.proofs.Meaning.{joined_members}
+use Rattle.laws.proofs.Bools.{and-true, when, neither, and_when}
 
 -- tests put together
-
-or-none : (a b : Bool) → a ≡ false → b ≡ false → a || b ≡ false
-or-none a b e f = rw (e, f)
-
-and_when : (a b : Bool) → (a ≡ true → b ≡ false) → a && b ≡ false
-and_when true b h = h refl
-and_when false b h = refl
-
-when : (a b : Bool) → a && b ≡ false → a ≡ true → b ≡ false
-when a b e q = rw q at e
 
 unused : (t : List ℕ) (r k : ℕ) → word_at t r k ≡ 0 → used t r k ≡ false
 unfolding used
@@ -160,9 +150,9 @@ module _ (t u : List ℕ) (A : Accepts t) (M : MovedTo t u) where
   none3 : (r : ℕ) → row3 u r ≡ false
   unfolding row3
   none3 r =
-      or-none _ _ (and_when (is_nonterminal u r) _ (λ e. let w = is_nonterminal_lem r e in rw w.2 (nonterminal_index w.0 w.1)))
-      (or-none _ _ (and_when (is_state u r) _ (λ e. let w = is_state_lem r e in rw w.2 (or-none _ _ (item_index t u A M w.0 w.1) (edge_index t u A M w.0 w.1))))
-      (or-none _ _ (and_when (is_production u r) _ (λ e. let w = is_production_lem r e in rw w.2 (or-none _ _ (production_index w.0 w.1) (symbol_index t u A M w.0 w.1))))
+      neither _ _ (and_when (is_nonterminal u r) _ (λ e. let w = is_nonterminal_lem r e in rw w.2 (nonterminal_index w.0 w.1)))
+      (neither _ _ (and_when (is_state u r) _ (λ e. let w = is_state_lem r e in rw w.2 (neither _ _ (item_index t u A M w.0 w.1) (edge_index t u A M w.0 w.1))))
+      (neither _ _ (and_when (is_production u r) _ (λ e. let w = is_production_lem r e in rw w.2 (neither _ _ (production_index w.0 w.1) (symbol_index t u A M w.0 w.1))))
       (and_when (as_symbol u r || (as_item u r || as_edge u r)) _
       (or-which (as_symbol u r) (as_item u r || as_edge u r)
       (λ e. let w = was_symbol r e in rw (← w.2) (loose_index w.0 (as_symbol_lem t w.0 w.1)))
@@ -210,7 +200,7 @@ module _ (t u : List ℕ) (A : Accepts t) (M : MovedTo t u) where
   none7 : (r : ℕ) → row7 u r ≡ false
   unfolding row7
   none7 r =
-      or-none _ _
+      neither _ _
       (and_when (as_item u r) _
       (λ e.
       let w = was_item r e in
@@ -226,7 +216,7 @@ module _ (t u : List ℕ) (A : Accepts t) (M : MovedTo t u) where
       item_fits : (x : ℕ) → reached t x ≡ true → word_at t x 1 < productions t → word_at t x 2 ≤ length (symbol_chain t (word_at t x 1))
           → (leb (productions u) (word_at u (moved t x) 1) || ltb (length (symbol_chain u (word_at u (moved t x) 1))) (word_at u (moved t x) 2)) ≡ false
       item_fits x k a b =
-          rw (same_productions t u A M, M.one x k, M.two x k, short (word_at t x 1) a) (or-none _ _ (lt-leb _ _ a) (le-ltb _ _ b))
+          rw (same_productions t u A M, M.one x k, M.two x k, short (word_at t x 1) a) (neither _ _ (lt-leb _ _ a) (le-ltb _ _ b))
 
       edge_fits : (x : ℕ) → reached t x ≡ true → word_at t x 3 < states t → leb (states u) (word_at u (moved t x) 3) ≡ false
       edge_fits x k a = rw (same_states t u A M, M.three x k) (lt-leb _ _ a)
@@ -234,16 +224,16 @@ module _ (t u : List ℕ) (A : Accepts t) (M : MovedTo t u) where
   none8 : (r : ℕ) → row8 u r ≡ false
   unfolding row8
   none8 r =
-      or-none _ _
+      neither _ _
       (and_when (is_nonterminal u r) _
       (λ e.
       let w = is_nonterminal_lem r e in
       let l = areas_of t in
       let z = nonterminal_spare t A w.0 w.1 in
       rw w.2
-      (or-none _ _ (unused u (1 + w.0) 1 (M.stays_one (1 + w.0) (omega (arith, w.1)) ∙ z.0))
-      (or-none _ _ (unused u (1 + w.0) 2 (M.stays_two (1 + w.0) (omega (arith, w.1)) ∙ z.1)) (unused u (1 + w.0) 3 (M.stays_three (1 + w.0) (omega (arith, w.1)) ∙ z.2))))))
-      (or-none _ _
+      (neither _ _ (unused u (1 + w.0) 1 (M.stays_one (1 + w.0) (omega (arith, w.1)) ∙ z.0))
+      (neither _ _ (unused u (1 + w.0) 2 (M.stays_two (1 + w.0) (omega (arith, w.1)) ∙ z.1)) (unused u (1 + w.0) 3 (M.stays_three (1 + w.0) (omega (arith, w.1)) ∙ z.2))))))
+      (neither _ _
       (and_when (is_state u r) _
       (λ e.
       let w = is_state_lem r e in
@@ -251,7 +241,7 @@ module _ (t u : List ℕ) (A : Accepts t) (M : MovedTo t u) where
       let b : state_area t + w.0 < loose t = omega (arith, w.1) in
       let z = state_spare t A (state_area t + w.0) b (state_place t w.0 w.1) in
       rw w.2
-      (or-none _ _ (unused u (state_area t + w.0) 2 (M.stays_two (state_area t + w.0) b ∙ z.0)) (unused u (state_area t + w.0) 3 (M.stays_three (state_area t + w.0) b ∙ z.1)))))
+      (neither _ _ (unused u (state_area t + w.0) 2 (M.stays_two (state_area t + w.0) b ∙ z.0)) (unused u (state_area t + w.0) 3 (M.stays_three (state_area t + w.0) b ∙ z.1)))))
       (and_when (as_symbol u r || as_item u r) _
       (or-which (as_symbol u r) (as_item u r)
       (λ e.
@@ -288,7 +278,7 @@ module _ (t u : List ℕ) (A : Accepts t) (M : MovedTo t u) where
       let g = A.few_records in
       let d = areas_of t in
       let m : length u % 4 ≡ 0 = omega arith in
-      or-none _ _ (ne_eqb (length u) 0 (λ z. omega arith)) (or-none (not (eqb (length u % 4) 0)) _ (rw m) (le-ltb 32768 (length u) (omega arith)))
+      neither _ _ (ne_eqb (length u) 0 (λ z. omega arith)) (neither (not (eqb (length u % 4) 0)) _ (rw m) (le-ltb 32768 (length u) (omega arith)))
 
   counts_good : row2 u ≡ false
   unfolding row2 count_of
@@ -305,12 +295,12 @@ module _ (t u : List ℕ) (A : Accepts t) (M : MovedTo t u) where
       let a4 = A.some_state in
       let a5 = A.few_states in
       let a6 = A.few_productions_lem in
-      or-none _ _ (ne_eqb (nonterminals u) 0 (λ q. omega arith))
-      (or-none _ _ (le-ltb 32 (nonterminals u) (omega arith))
-      (or-none _ _ (le-ltb 63 (terminals u) (omega arith))
-      (or-none _ _ (ne_eqb (states u) 0 (λ q. omega arith))
-      (or-none _ _ (le-ltb 128 (states u) (omega arith))
-      (or-none _ _ (le-ltb 128 (productions u) (omega arith)) (le-ltb (records u) (loose u) (omega arith)))))))
+      neither _ _ (ne_eqb (nonterminals u) 0 (λ q. omega arith))
+      (neither _ _ (le-ltb 32 (nonterminals u) (omega arith))
+      (neither _ _ (le-ltb 63 (terminals u) (omega arith))
+      (neither _ _ (ne_eqb (states u) 0 (λ q. omega arith))
+      (neither _ _ (le-ltb 128 (states u) (omega arith))
+      (neither _ _ (le-ltb 128 (productions u) (omega arith)) (le-ltb (records u) (loose u) (omega arith)))))))
 
   pub moved_accepted : check_of u ≡ Accepted
   moved_accepted = (accepted_exact u).1 (record { words = words_good; counts = counts_good; records = λ n r h l i. no_row n r h l })

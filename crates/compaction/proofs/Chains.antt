@@ -10,11 +10,11 @@ use Rattle.repr.proofs.Lists.{cases}
 use Rattle.table.specs.Words.{word_at, nonterminals, terminals, states, productions, state_area, production_area, loose, loose_records, production_records, against, chain}
 use Rattle.table.specs.Decoded.{production_chain, symbol_chain, item_chain, edge_chain}
 use Rattle.table.specs.Refusals.{is_state}
-use Rattle.table.proofs.Chains.{and-true}
 use Rattle.table.proofs.Accepted.{Accepts, areas_of, state_place, symbol-head, item-head, edge_head}
 use Rattle.compaction.specs.Compaction.{reached, moved, count_of}
 use Rattle.compaction.proofs.Renumbered.{Renumbers, head_renumbered, index_renumbered, chain_agree}
 use Rattle.compaction.proofs.Moves.{MovedTo, moved-zero, moved_inside, moved_early, moved_rises, reached-next, reached-closed, symbol_headed, item_headed, edge_headed}
+use Rattle.laws.proofs.Bools.{and-true}
 
 pub no_state_lem : (t : List ℕ) (r : ℕ) → (state_area t ≤ r → r < production_area t → ⊥) → is_state t r ≡ false
 unfolding is_state

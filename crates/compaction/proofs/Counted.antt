@@ -12,7 +12,6 @@ use Rattle.repr.specs.Reply.{answered}
 use Rattle.repr.specs.Lists.{below, mem, keep}
 use Rattle.repr.proofs.Lists.{cases, mem-keep, mem_below}
 use Rattle.table.specs.Words.{records, nonterminals, states, productions, state_area, production_area, loose}
-use Rattle.table.proofs.Chains.{and-true}
 use Rattle.table.proofs.Reached.{reached-symbol, reached-item, reached_edge}
 use Rattle.compaction.specs.Compaction.{reached, rank_of, rank, kept, count_of}
 use Rattle.compaction.specs.InUse.{InUse, AllInUse}
@@ -20,6 +19,7 @@ use Rattle.compaction.specs.Outcome.{compact_of}
 use Rattle.compaction.proofs.Ranks.{rank_up, rank-onto, kept_at}
 use Rattle.compaction.proofs.Moves.{by_kind, as_symbol_lem, as_item_lem, as_edge_lem, reached-place}
 use Rattle.compaction.proofs.Called.{left}
+use Rattle.laws.proofs.Bools.{and-true}
 
 module _ (t : List ℕ) where
   -- `reached` decides it

@@ -25,9 +25,6 @@ use Rattle.compaction.proofs.Numbering.{items_headed, others_headed, reached-bel
 use Rattle.compaction.proofs.InPlace.{compacted_by}
 use Rattle.compaction.proofs.Called.{accepted_outcome}
 
-pub sized : (t : List ℕ) → check_of t ≡ Accepted → Sized t
-sized t e = let r = rows_first t e in record { words = r.0; counts = r.1 }
-
 pub count_fits : (t : List ℕ) (n : ℕ) → check_of t ≡ Accepted → n ≡ count_of t → n ≤ record_limit
 count_fits t n e c = let m = count_most t e in let f = (accepts t e).few_records in omega arith
 

@@ -38,13 +38,6 @@ first-members f g (x ∷ xs) h =
     (λ q. first?-yes f x xs (e ∙ q) ∙ sym (first?-yes g x xs q))
     (λ q. first?_no f x xs (e ∙ q) ∙ first-members f g xs (λ y m. h y (mem-cons_there y x xs m)) ∙ sym (first?_no g x xs q))
 
-pub joined_members : (f g : ℕ → List ℕ) (xs : List ℕ) → ((x : ℕ) → mem x xs ≡ true → f x ≡ g x) → joined f xs ≡ joined g xs
-unfolding joined
-joined_members f g [] h = refl
-joined_members f g (x ∷ xs) h =
-    joined_cons f x xs ∙ ap (λ (l : List ℕ). l ++ joined f xs) (h x (mem-cons_here x xs))
-    ∙ ap (λ (l : List ℕ). g x ++ l) (joined_members f g xs (λ y m. h y (mem-cons_there y x xs m))) ∙ sym (joined_cons g x xs)
-
 -- a member of a chain is reached as what the chain holds
 module _ (t : List ℕ) where
   pub in_symbols : (p x : ℕ) → p < productions t → mem x (symbol_chain t p) ≡ true → as_symbol t x ≡ true

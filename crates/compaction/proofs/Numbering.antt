@@ -21,6 +21,7 @@ use Rattle.compaction.specs.Compaction.{reached, rank, moved, count_of}
 use Rattle.compaction.specs.Passes.{Headed, HeadsMarked, Numbering, Numbers, Numbered}
 use Rattle.compaction.proofs.Ranks.{rank-yes, rank_no, rank-none, rank_bound}
 use Rattle.compaction.proofs.Moves.{by_kind, as_symbol_lem, as_item_lem, as_edge_lem, reached-place, reached-some, reached-next, reached-closed, symbol_headed, item_headed, edge_headed, moved_is, moved-zero}
+use Rattle.laws.proofs.Lists.{zero_at}
 
 -- a number that is 0, or not
 zero_or {ℓ} : {P : Type ℓ} (n : ℕ) → (n ≡ 0 → P) → ((n ≡ 0 → ⊥) → P) → P
@@ -103,16 +104,11 @@ module _ (t : List ℕ) (first k : ℕ) (ms : List ℕ) where
 
 -- the pass
 
-zeros_at : (m z : ℕ) → ◌≡◌ {A = ℕ} (get_or (replicate m 0) z 0) 0
-zeros_at zero z = refl
-zeros_at (suc m) zero = refl
-zeros_at (suc m) (suc z) = zeros_at m z
-
 -- where it begins
 pub numbering_start : (t ms ms₁ ms₂ : List ℕ) (n : ℕ) → ms ≡ replicate n 0 → HeadsMarked t (state_area t) (production_area t) 0 ms ms₁ → HeadsMarked t (state_area t) (loose t) 1 ms₁ ms₂
     → Numbering t ms₂ (loose t)
 numbering_start t ms ms₁ ms₂ n e H K = record {
-  sound = K.sound (H.sound (λ x ne. absurd (ne (ap (λ (l : List ℕ). get_or l x 0) e ∙ zeros_at n x))));
+  sound = K.sound (H.sound (λ x ne. absurd (ne (ap (λ (l : List ℕ). get_or l x 0) e ∙ zero_at n x))));
   items = λ r h l ne. K.stays (word_at t r 0) (H.heads r h l ne);
   others = K.heads;
   nexts = λ x h q. let p = reached-place t x q in absurd (omega (arith, p.0));

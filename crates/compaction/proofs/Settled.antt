@@ -9,7 +9,6 @@ use borrow.Author.Tests.{eqb-true, eqb-false, ltb-true, ltb-false, leb-true}
 use Rattle.repr.proofs.Lists.{cases, clash}
 use Rattle.table.specs.Words.{word_at, records, states, productions, state_area, production_area, loose}
 use Rattle.table.specs.Refusals.{is_state}
-use Rattle.table.proofs.Chains.{and-true}
 use Rattle.table.proofs.Accepted.{Accepts, areas_of}
 use Rattle.table.specs.Quads.{no_quad, quad_at}
 use Rattle.table.proofs.Quads.{made_quad}
@@ -17,6 +16,7 @@ use Rattle.compaction.specs.Compaction.{reached, rank, moved, count_of, area_qua
 use Rattle.compaction.proofs.Ranks.{rank_block, rank_flat}
 use Rattle.compaction.proofs.Moves.{reached-place, reached-closed, symbol_headed, item_headed, edge_headed, moved-zero, moved_is}
 use Rattle.compaction.proofs.Placed.{quad_area, quad_loose, quad_freed, area_stays, area_items, area_one, area_heads, area_two, area_three, loose-words}
+use Rattle.laws.proofs.Bools.{and-true}
 
 -- no gaps, and nothing behind k
 pub record Settled (u : List ℕ) (k : ℕ) : Type 0 where

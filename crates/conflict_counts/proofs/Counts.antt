@@ -4,7 +4,7 @@ use mathlib.Core.Bool.{and-false}
 use Rattle.repr.specs.Sizes.{index_limit}
 use Rattle.repr.specs.Lists.{up_from, below, mem, joined}
 use Rattle.repr.specs.Meaning.{Table}
-use Rattle.repr.proofs.Lists.{cases, clash, length_mapped, mem-up_from, mem_below, mem-cons_here, mem-cons_there, joined_nil, joined_cons}
+use Rattle.repr.proofs.Lists.{cases, clash, length_mapped, mem-up_from, mem_below, mem-cons_here, mem-cons_there, joined_nil, joined_cons, up_from_more, up_from_end}
 use Rattle.std.specs.List.{range_with_len, sum_by}
 use Rattle.std.proofs.lemmas.List.Sums.{sum_by-cons}
 use Rattle.lookahead.specs.Tokens.{meet, members}
@@ -16,27 +16,19 @@ use Rattle.clashing.proofs.Clashes.{clashes_with_lem}
 use Rattle.conflict_counts.specs.Reductions.{ReducedAs}
 use Rattle.conflict_counts.specs.Clashed.{pairs_in, clashes_in}
 
-pub range_more : (p n : ℕ) → p < n → up_from p (n - p) ≡ p ∷ up_from (p + 1) (n - (p + 1))
-unfolding up_from
-range_more p n h = let z : n - p ≡ suc (n - (p + 1)) = omega arith in rw (z, add-one p) refl
-
-pub range_end : (p n : ℕ) → n ≤ p → up_from p (n - p) ≡ []
-unfolding up_from
-range_end p n h = let z : n - p ≡ 0 = omega arith in rw z refl
-
 pub pairs-more : (r : List ℕ) (p q n : ℕ) → q < n → pairs_in r p (up_from q (n - q)) ≡ map (reduce_clash p q) (members (meet (get_or r p 0) (get_or r q 0))) ++ pairs_in r p (up_from (q + 1) (n - (q + 1)))
 unfolding pairs_in joined
-pairs-more r p q n h = ap (pairs_in r p) (range_more q n h)
+pairs-more r p q n h = ap (pairs_in r p) (up_from_more q n h)
 
 pub pairs_end : (r : List ℕ) (p q n : ℕ) → n ≤ q → pairs_in r p (up_from q (n - q)) ≡ []
 unfolding pairs_in joined
-pairs_end r p q n h = ap (pairs_in r p) (range_end q n h)
+pairs_end r p q n h = ap (pairs_in r p) (up_from_end q n h)
 
 pub joined_more : {B : Type 0} (f : ℕ → List B) (p n : ℕ) → p < n → joined f (up_from p (n - p)) ≡ f p ++ joined f (up_from (p + 1) (n - (p + 1)))
-joined_more f p n h = ap (joined f) (range_more p n h) ∙ joined_cons f p (up_from (p + 1) (n - (p + 1)))
+joined_more f p n h = ap (joined f) (up_from_more p n h) ∙ joined_cons f p (up_from (p + 1) (n - (p + 1)))
 
 pub joined_end : {B : Type 0} (f : ℕ → List B) (p n : ℕ) → n ≤ p → joined f (up_from p (n - p)) ≡ []
-joined_end f p n h = ap (joined f) (range_end p n h) ∙ joined_nil f
+joined_end f p n h = ap (joined f) (up_from_end p n h) ∙ joined_nil f
 
 pub joined_start : {B : Type 0} (f : ℕ → List B) (n : ℕ) → joined f (up_from 0 (n - 0)) ≡ joined f (below n)
 unfolding below

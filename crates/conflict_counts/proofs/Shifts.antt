@@ -24,6 +24,7 @@ use Rattle.closing.proofs.Grammar.{production_at_lem}
 use Rattle.closing.proofs.Rest.{front_sized}
 use Rattle.clashing.specs.Clashes.{Shifted}
 use Rattle.conflict_counts.specs.Clashed.{shifts_at, ShiftedIn}
+use Rattle.laws.proofs.Bools.{agree, and-true}
 
 -- one place more, one law for each way through the code
 
@@ -83,14 +84,7 @@ shifted-more g S x s sh r e f q t =
     ∙ ap (λ (b : Bool). some? (λ x. shifts_at g (get_or S x 0) x t) (below x) || b) (some?-cons (λ x. shifts_at g (get_or S x 0) x t) x [] ∙ rw (some?-nil (λ (x : ℕ). shifts_at g (get_or S x 0) x t)) (or-false (shifts_at g (get_or S x 0) x t))) in
     q t ∙ rw (f t, e, one) (cases (ltb t 63) (λ u. rw u refl) (λ u. rw u refl))
 
--- both at once
-
-both : (a b : Bool) → (a && b) ≡ true → (a ≡ true) × (b ≡ true)
-both true b h = (refl, h)
-both false b h = clash false h refl
-
-agree : (a b : Bool) → (a ≡ true → b ≡ true) → (b ≡ true → a ≡ true) → a ≡ b
-agree a b f g = cases a (λ t. t ∙ sym (f t)) (λ t. cases b (λ u. clash a (g u) t) (λ u. t ∙ sym u))
+-- and-true at once
 
 module _ (T : Table) (g : List ℕ) (P e : ℕ) (sets : List ℕ) (G : OfTable T g P e sets) where
   code_at : (x : ℕ) → x < index_limit * P → code_in g (x / index_limit) (x % index_limit) ≡ cursor_code (from T x)
@@ -154,7 +148,7 @@ module _ (T : Table) (g : List ℕ) (P e : ℕ) (sets : List ℕ) (G : OfTable T
     place-says : (x : ℕ) → x < index_limit * P → shifts_at g (get_or K x 0) x t ≡ true → (get_or K x 0 ≡ 0 → ⊥) × ((t < T.terminals) × ((β : List Symbol) × (from T x ≡ terminal t ∷ β)))
     unfolding shifts_at
     place-says x m h =
-        let b = both (not (eqb (get_or K x 0) 0)) (eqb (code_in g (x / index_limit) (x % index_limit)) (32 + t)) h in (
+        let b = and-true (not (eqb (get_or K x 0) 0)) (eqb (code_in g (x / index_limit) (x % index_limit)) (32 + t)) h in (
           eqb-false (get_or K x 0) 0 (not-true (eqb (get_or K x 0) 0) b.0),
           code-says (from T x) (fits-from x (from T x) refl) t l (sym (code_at x m) ∙ eqb-true (code_in g (x / index_limit) (x % index_limit)) (32 + t) b.1),
         )

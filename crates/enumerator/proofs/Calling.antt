@@ -17,7 +17,7 @@ use Rattle.enumerator.specs.Behind.{trials_in, Fit}
 use Rattle.enumerator.specs.Lookahead.{Lookahead}
 use Rattle.enumerator.specs.declared.Listing.{Listing}
 use Rattle.enumerator.specs.declared.Advanced.TheVariants.{End}
-use Rattle.trace_graph.proofs.Bools.{and_left, and_right}
+use Rattle.laws.proofs.Bools.{and_left, and_right}
 use Rattle.enumerator.proofs.Short.{short_trial}
 use Rattle.enumerator.proofs.Edges.{few_edges}
 use Rattle.enumerator.proofs.After.{drop_in, drop_more, after_trial}

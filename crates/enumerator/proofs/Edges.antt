@@ -9,11 +9,8 @@ use Rattle.trace_graph.specs.Graph.{at_nonterminal, TraceEdge}
 use Rattle.trace_graph.specs.Words.{node_of, node_at, edge_at, edges_in}
 use Rattle.trace_graph.specs.Fits.{node_fits, edge_is_fit, once, graph_fits}
 use Rattle.enumerator.specs.Trials.{no_edge, ends_of, Small}
-use Rattle.trace_graph.proofs.Bools.{and_left, and_right}
-
-pub edges_count : (ws : List ℕ) → length (edges_in ws) ≡ get_or ws 0 0
-unfolding edges_in
-edges_count ws = length-map-below (edge_at ws) (get_or ws 0 0)
+use Rattle.laws.proofs.Bools.{and_left, and_right}
+use Rattle.trace_graph.proofs.Front.{edges_long}
 
 pub edges_at_lem : (ws : List ℕ) (k : ℕ) → k < get_or ws 0 0 → get_or (edges_in ws) k no_edge ≡ edge_at ws k
 unfolding edges_in
@@ -57,6 +54,6 @@ nonterminal-fits n ps (suc (suc k)) a b m f e = let z : ◌≡◌ {A = ℕ} 0 1 
 pub small_of : (n : ℕ) (ps : List Production) (ws : List ℕ) → graph_fits n ps ws ≡ true → n ≤ 32 → Small (ends_of (edges_in ws))
 unfolding node_at
 small_of n ps ws fits few e m h q =
-    let l : e < get_or ws 0 0 = omega (arith, edges_count ws) in
+    let l : e < get_or ws 0 0 = omega (arith, edges_long ws) in
     let s = nonterminal-fits n ps (get_or ws (edge_place e) 0) (get_or ws (edge_place e + 1) 0) (get_or ws (edge_place e + 2) 0) m (source_fits n ps ws fits e l) (sym (source_at ws e l) ∙ q) in
     omega arith

@@ -6,9 +6,9 @@ use borrow.Author.Tests.{eqb-false}
 use Rattle.repr.specs.Lists.{mem}
 use Rattle.trace_graph.specs.Graph.{Node, at_nonterminal, at_item, is_same_node}
 use Rattle.enumerator.specs.Trials.{Path, Ends, TrialFrom, IsTrial, AllPaths, level, within, trials_from, walk_fuel, trials, Small}
-use Rattle.enumerator.proofs.Nodes.{same_eq, same_refl}
 use Rattle.enumerator.proofs.Level.{level-hit, level_miss, within_on, within_in, free, free_lt, free_all}
 use Rattle.enumerator.proofs.Paths.{all_in, all_append, all_map, all_weak}
+use Rattle.trace_graph.proofs.Labels.{node_refl, node_equal}
 
 module _ (G : Ends) where
   -- e can go before each way on that ch gives at it
@@ -22,7 +22,7 @@ module _ (G : Ends) where
     where
       by : AllPaths (TrialFrom G us v) (level G ch v k) → (b : Bool) → is_same_node (G.target k) v ≡ b → AllPaths (TrialFrom G us v) (level G ch v (suc k))
       by ih true e =
-          let t = same_eq (G.target k) v e in
+          let t = node_equal (G.target k) v e in
           rw (level-hit G ch v k e) (
             (h, t),
             all_append (TrialFrom G us v) (map (λ p. k ∷ p) (ch k)) (level G ch v k)
@@ -71,7 +71,7 @@ module _ (G : Ends) where
           less : (e ≡ k → ⊥) → e < k
           less a = omega arith
       by ih false s true q =
-          let a : is_same_node (G.target k) v ≡ true = rw (← eqb-true e k q, t) (same_refl v) in
+          let a : is_same_node (G.target k) v ≡ true = rw (← eqb-true e k q, t) (node_refl v) in
           let z : true ≡ false = sym a ∙ s in
           absurd (no_way z)
         where

@@ -10,7 +10,7 @@ use Rattle.enumerator.specs.Machine.{next, Run}
 use Rattle.enumerator.proofs.Run.{next_runs}
 use Rattle.enumerator.proofs.After.{after_here, after-later, next-after}
 
-after_in : (p q : Path) (ts : List Path) → Memᴰ q (after p ts) → Memᴰ q ts
+pub after_in : (p q : Path) (ts : List Path) → Memᴰ q (after p ts) → Memᴰ q ts
 unfolding after
 after_in p q [] m = m
 after_in p q (x ∷ xs) m = by (after_in p q xs) (same_words p x) refl

@@ -13,7 +13,7 @@ use Rattle.trace_graph.specs.Graph.{at_item, TraceEdge}
 use Rattle.enumerator.specs.Trials.{Path, Before, ends_of, trials, is_example_in, IsTrial, AllPaths, Increasing, Small}
 use Rattle.enumerator.specs.Lister.{Call, enough, passes, hands, says, Found, hit, out, over, search, Answer, example, end, refused, Out, Plain, fresh, found_out, found_then, plain_find, plain_out, plain_then, plain_run, plain_lister}
 use Rattle.enumerator.specs.Told.{plainly, path_lister, spoken, handed, ends, ends_at, answers, count_after, EndsAgain, Closed, NumberedAt, Numbered, IsHanded, Handed}
-use Rattle.trace_graph.proofs.Bools.{and_left, and_right, both}
+use Rattle.laws.proofs.Bools.{and_left, and_right, both}
 use Rattle.enumerator.proofs.After.{drop_more}
 use Rattle.enumerator.proofs.Search.{Finds, finds}
 use Rattle.enumerator.proofs.Examples.{examples_ordered, examples_exact}

@@ -6,7 +6,7 @@ use lib.ListN.{length-reverse}
 use lib.Bits.{bit_or, or_add_and, and_le_l, and_le_r}
 use borrow.Author.Tests.{eqb-false}
 use Rattle.repr.specs.Sizes.{edge_place, scratch_words, reduction_limit}
-use Rattle.slices.proofs.Same.{same_words_eq}
+use Rattle.slices.proofs.Same.{same_words_eq, same_behind}
 use Rattle.slices.specs.Same.{same_words}
 use Rattle.repr.specs.Lists.{mem}
 use Rattle.repr.specs.Meaning.{Production, Item}
@@ -22,14 +22,15 @@ use Rattle.enumerator.specs.Trials.{Path, Ends, TrialFrom, is_example_in, Small}
 use Rattle.enumerator.specs.Words.{words_of, path_in, has_trial, path_room}
 use Rattle.enumerator.specs.Machine.{used_of, goes_on_byte, trial_from?}
 use Rattle.enumerator.specs.Stacks.{Ground, Started, Within, Stacked, stack_in}
-use Rattle.trace_graph.proofs.Bools.{and_left}
-use Rattle.enumerator.proofs.Edges.{edges_count, source_at, target_at}
+use Rattle.laws.proofs.Bools.{and_left}
+use Rattle.enumerator.proofs.Edges.{source_at, target_at}
 use Rattle.enumerator.proofs.Steps.{used_end, used_in}
 use Rattle.enumerator.proofs.Exact.{complete}
 use Rattle.enumerator.proofs.Short.{short_trial}
 use Rattle.enumerator.proofs.Tested.{passes_trial, holds_test}
 use Rattle.enumerator.proofs.StackWords.{stack_more}
 use Rattle.enumerator.proofs.Stepping.{ends, edge_value_fits, source_value, source-value_fits, value_nonterminal, value_item, start_fits}
+use Rattle.trace_graph.proofs.Front.{edges_long}
 
 -- `only_zeros`
 
@@ -44,10 +45,6 @@ same_eq x y xs ys h = ap (λ (b : Bool). b && same_words xs ys) (eq-eqb x y h)
 same_none : same_words [] [] ≡ true
 unfolding same_words
 same_none = refl
-
-same_front : (p xs ys : List ℕ) → same_words (p ++ xs) (p ++ ys) ≡ same_words xs ys
-same_front [] xs ys = refl
-same_front (x ∷ p) xs ys = same_eq x x (p ++ xs) (p ++ ys) refl ∙ same_front p xs ys
 
 -- the words from a place on, and as many zeros
 abbrev pub zeros_from : List ℕ → ℕ → Bool
@@ -119,7 +116,7 @@ module _ {g : List ℕ} (B : Ground g) (v : NodeValue) (fits : node_value_fits B
   unfolding edge_read
   enters_edge h r t et er =
       let l : e < get_or g 0 0 = omega arith in
-      let c : e < (ends g).count = omega (arith, edges_count g) in
+      let c : e < (ends g).count = omega (arith, edges_long g) in
       let f : node_value_fits B.ranged.nonterminals B.productions t ≡ true =
       ap (node_value_fits B.ranged.nonterminals B.productions) et ∙ target_fits B.ranged.nonterminals B.productions (edge_read g e) (edge_value_fits B e l) in
       let n : node_is t ≡ (ends g).target e = ap node_is et ∙ node_read_lem g (edge_place e + 3) ∙ sym (target_at g e l) in
@@ -128,7 +125,7 @@ module _ {g : List ℕ} (B : Ground g) (v : NodeValue) (fits : node_value_fits B
 
   pub enters_past : w ≤ e → false ≡ (ltb e (ends g).count && is_same_node ((ends g).target e) (node_is v))
   enters_past h =
-      let c : (ends g).count ≤ e = omega (arith, edges_count g) in
+      let c : (ends g).count ≤ e = omega (arith, edges_long g) in
       sym (ap (λ (b : Bool). b && is_same_node ((ends g).target e) (node_is v)) (le-ltb e (ends g).count c))
 
 -- the ways through the test of a path
@@ -242,7 +239,7 @@ module _ {g ws : List ℕ} {d production index : ℕ} {node : NodeValue} {at : �
       passed = sym er ∙ h
 
       pub trial_edge : x < get_or g 0 0
-      trial_edge = omega (arith, ltb-true x (ends g).count (and_left (ltb x (ends g).count) (is_same_node ((ends g).target x) (node_is node)) passed), edges_count g)
+      trial_edge = omega (arith, ltb-true x (ends g).count (and_left (ltb x (ends g).count) (is_same_node ((ends g).target x) (node_is node)) passed), edges_long g)
 
       module _ (s : NodeValue) (es : node_is s ≡ node_at g (edge_place x)) where
         pub trial_ends : (s.kind ≡ 0 → ⊥) → false ≡ whole
@@ -317,14 +314,14 @@ stacked_of {k} p rest w s e = record {
   edges = within-reverse k p e;
 }
 
-nonterminal_range : (n : ℕ) (ps : List Production) (m : ℕ) → InRange n ps (at_nonterminal m) → m < n
+pub nonterminal_range : (n : ℕ) (ps : List Production) (m : ℕ) → InRange n ps (at_nonterminal m) → m < n
 unfolding InRange
 nonterminal_range n ps m h = h
 
 pub small_ground : {g : List ℕ} → Ground g → Small (ends g)
 unfolding edge_read
 small_ground {g} B e m h q =
-    let l : e < get_or g 0 0 = omega (arith, edges_count g) in
+    let l : e < get_or g 0 0 = omega (arith, edges_long g) in
     let v = node_read g (edge_place e) in
     let r = value_range B.ranged.nonterminals B.productions v (source_fits B.ranged.nonterminals B.productions (edge_read g e) (edge_value_fits B e l)) in
     let s : node_is v ≡ at_nonterminal m = node_read_lem g (edge_place e) ∙ sym (source_at g e l) ∙ q in
@@ -342,7 +339,7 @@ words_same w ws h long =
     let r : words_of p ≡ (w ∷ p) ++ replicate (path_room - w) 0 = ap (λ (k : ℕ). k ∷ (p ++ replicate (path_room - k) 0)) n in
     let s : suc w ≡ w + 1 = omega arith in
     let z : path_room - w ≡ scratch_words - (w + 1) = omega arith in
-    ap (λ (xs : List ℕ). same_words xs (words_of p)) l ∙ ap (same_words ((w ∷ p) ++ drop w T)) r ∙ same_front (w ∷ p) (drop w T) (replicate (path_room - w) 0)
+    ap (λ (xs : List ℕ). same_words xs (words_of p)) l ∙ ap (same_words ((w ∷ p) ++ drop w T)) r ∙ same_behind (w ∷ p) (drop w T) (replicate (path_room - w) 0)
     ∙ ap (λ (k : ℕ). same_words (drop w T) (replicate k 0)) z
     ∙ ap (λ (k : ℕ). same_words (drop k (w ∷ T)) (replicate (scratch_words - (w + 1)) 0)) s
 
@@ -418,7 +415,7 @@ module _ {g : List ℕ} {production index : ℕ} (A : Started g production index
         pub holds_stack : Stacked (get_or g 0 0) ws
         holds_stack =
             let p = take d (drop 1 ws) in
-            stacked_of p (drop scratch_words ws) path_front (few (sym eu ∙ y)) (rw (sym (edges_count g)) (trial_within (ends g) p [] start (passing (sym eu ∙ y))))
+            stacked_of p (drop scratch_words ws) path_front (few (sym eu ∙ y)) (rw (sym (edges_long g)) (trial_within (ends g) p [] start (passing (sym eu ∙ y))))
 
         pub holds_yes : (b : Bool) → ((st rest : List ℕ) → ws ≡ words_of (reverse st) ++ rest → b ≡ is_example_in (ends g) (reverse st)) → b ≡ has_trial (ends g) start ws
         holds_yes b f =

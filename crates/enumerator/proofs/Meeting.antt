@@ -14,7 +14,7 @@ use Rattle.trace_graph.specs.Graph.{TraceEdge}
 use Rattle.enumerator.specs.Trials.{Path}
 use Rattle.enumerator.specs.Lister.{labels_of, passes}
 use Rattle.enumerator.specs.Told.{Meets}
-use Rattle.trace_graph.proofs.Bools.{and_left, and_right}
+use Rattle.laws.proofs.Bools.{and_left, and_right}
 
 -- a set that is not empty has a token
 some-token : (s : ℕ) → (s ≡ 0 → ⊥) → (k : ℕ) × (has s k ≡ true)

@@ -19,7 +19,7 @@ use Rattle.enumerator.specs.Behind.{trials_in, Fit}
 use Rattle.enumerator.specs.Lookahead.{Lookahead}
 use Rattle.enumerator.specs.declared.Advanced.{Advanced}
 use Rattle.enumerator.specs.declared.Advanced.TheVariants.{Example, End}
-use Rattle.trace_graph.proofs.Bools.{and_left}
+use Rattle.laws.proofs.Bools.{and_left}
 use Rattle.enumerator.proofs.Short.{short_trial}
 use Rattle.enumerator.proofs.After.{drop_in}
 use Rattle.enumerator.proofs.WordsOf.{words_long}

@@ -17,7 +17,7 @@ use Rattle.enumerator.specs.Opening.{listing, Ready}
 use Rattle.enumerator.specs.Advance.{set_of, ahead_fits, lent_graph_fits, asked, open_in, open_by, open_of}
 use Rattle.enumerator.specs.Lookahead.{Lookahead}
 use Rattle.enumerator.specs.declared.Listing.{Listing}
-use Rattle.trace_graph.proofs.Bools.{both}
+use Rattle.laws.proofs.Bools.{both}
 use Rattle.enumerator.proofs.Edges.{small_of}
 use Rattle.enumerator.proofs.Taken.{fits_long, asked_graph}
 

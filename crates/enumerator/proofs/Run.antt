@@ -5,9 +5,9 @@ use Rattle.repr.specs.Lists.{mem}
 use Rattle.trace_graph.specs.Graph.{Node, at_nonterminal, at_item, is_same_node}
 use Rattle.enumerator.specs.Trials.{Ends, level, within, trials_from, walk_fuel, trials, Small}
 use Rattle.enumerator.specs.Machine.{on_walk, below, back, seek, used_of, onward, next, Run}
-use Rattle.enumerator.proofs.Nodes.{same_eq}
 use Rattle.enumerator.proofs.Level.{level-hit, level_miss, within_on, within_in, free, free_lt, free_all}
 use Rattle.enumerator.proofs.Steps.{seek_hit, seek_miss, onward_on, onward_in}
+use Rattle.trace_graph.proofs.Labels.{node_equal}
 
 -- the stack of a path over a stack
 abbrev pub onto : List ℕ → List ℕ → List ℕ
@@ -34,8 +34,8 @@ module _ (G : Ends) (start : Node) (small : Small G) where
       by ih true e = rw (level-hit G ch v k e, seek_hit G v k st e) (
         refl,
         rw (onto-split k st (ch k) (level G ch v k) rest)
-            (w k (map (onto st) (level G ch v k) ++ rest) h (same_eq (G.target k) v e)
-            (subst (λ x. Run G start (seek G x k st) (map (onto st) (level G ch v k) ++ rest)) (sym (same_eq (G.target k) v e)) ih)),
+            (w k (map (onto st) (level G ch v k) ++ rest) h (node_equal (G.target k) v e)
+            (subst (λ x. Run G start (seek G x k st) (map (onto st) (level G ch v k) ++ rest)) (sym (node_equal (G.target k) v e)) ih)),
       )
       by ih false e = rw (level_miss G ch v k e, seek_miss G v k st e) ih
 

@@ -7,6 +7,7 @@ use Rattle.repr.specs.Sizes.{scratch_words}
 use Rattle.enumerator.specs.Words.{words_of, path_in, path_room}
 use Rattle.enumerator.specs.Stacks.{Within, Stacked, stack_in}
 use Rattle.enumerator.proofs.WordsOf.{words_long, path_in-words}
+use Rattle.laws.proofs.Lists.{length_last}
 
 pub words-head : (p rest : List ℕ) → get_or (words_of p ++ rest) 0 0 ≡ length p
 unfolding words_of
@@ -14,9 +15,6 @@ words-head p rest = refl
 
 pub words-all : (p rest : List ℕ) → length p ≤ path_room → scratch_words ≤ length (words_of p ++ rest)
 words-all p rest h = omega (arith, words_long p h, length-append (words_of p) rest)
-
-length_last : (p : List ℕ) (e : ℕ) → length (p ++ e ∷ []) ≡ suc (length p)
-length_last p e = omega (arith, length-append p (e ∷ []))
 
 -- the words with their last edge
 last : (p rest : List ℕ) (e m : ℕ) → path_room - length p ≡ suc m → words_of (p ++ e ∷ []) ++ rest ≡ suc (length p) ∷ (p ++ e ∷ (replicate m 0 ++ rest))

@@ -20,10 +20,10 @@ use Rattle.enumerator.specs.Trials.{Ends, ends_of, from_item, is_example_in}
 use Rattle.enumerator.specs.Words.{words_of}
 use Rattle.enumerator.specs.Machine.{used_of}
 use Rattle.enumerator.specs.Stacks.{Ground, Started, Within, Stacked, stack_in}
-use Rattle.enumerator.proofs.Nodes.{same_eq}
 use Rattle.enumerator.proofs.Edges.{source_at}
 use Rattle.enumerator.proofs.Steps.{used_end, used-item, used_in}
 use Rattle.enumerator.proofs.StackWords.{stack_once, empty, upper, upper_below, upper_is}
+use Rattle.trace_graph.proofs.Labels.{node_equal}
 
 abbrev pub ends : List ℕ → Ends
 ends g = ends_of (edges_in g)
@@ -76,7 +76,7 @@ module _ (g : List ℕ) (e : ℕ) (v : NodeValue) (h : e < get_or g 0 0) (q : no
 -- `uses`
 module _ (G : Ends) (n e : ℕ) (st : List ℕ) where
   used_here : is_same_node (G.source e) (at_nonterminal n) ≡ true → mem n (used_of G (e ∷ st)) ≡ true
-  used_here s = ap (mem n) (used_in G e st n (same_eq (G.source e) (at_nonterminal n) s)) ∙ mem-cons_here n (used_of G st)
+  used_here s = ap (mem n) (used_in G e st n (node_equal (G.source e) (at_nonterminal n) s)) ∙ mem-cons_here n (used_of G st)
 
   used_there : is_same_node (G.source e) (at_nonterminal n) ≡ false → mem n (used_of G (e ∷ st)) ≡ mem n (used_of G st)
   unfolding is_same_node
@@ -125,7 +125,7 @@ unfolding node_value_fits node_fits
 start_fits A = A.fits
 
 -- `is_example`
-example-last : (G : Ends) (p : List ℕ) (e : ℕ) → is_example_in G (p ++ e ∷ []) ≡ from_item (G.source e)
+pub example-last : (G : Ends) (p : List ℕ) (e : ℕ) → is_example_in G (p ++ e ∷ []) ≡ from_item (G.source e)
 example-last G [] e = refl
 example-last G (a ∷ []) e = refl
 example-last G (a ∷ b ∷ p) e = example-last G (b ∷ p) e

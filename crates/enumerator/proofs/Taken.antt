@@ -11,7 +11,7 @@ use Rattle.trace_graph.specs.Words.{node_at, edge_at, edges_in}
 use Rattle.trace_graph.specs.Fits.{item_is_fit, edge_is_fit, once, graph_fits}
 use Rattle.enumerator.specs.Trials.{no_edge}
 use Rattle.enumerator.specs.Advance.{ahead_fits, lent_graph_fits, asked}
-use Rattle.trace_graph.proofs.Bools.{both, and_left, and_right}
+use Rattle.laws.proofs.Bools.{both, and_left, and_right}
 use Rattle.enumerator.proofs.Edges.{few_edges, edge_fits, no_edge-twice}
 
 agree_below : (f h : ℕ → TraceEdge) (c : ℕ) → ((k : ℕ) → k < c → f k ≡ h k) → map f (below c) ≡ map h (below c)

@@ -8,22 +8,22 @@ use Rattle.trace_graph.specs.Graph.{Node, at_nonterminal, at_item, is_same_node}
 use Rattle.enumerator.specs.Trials.{Path, Ends, TrialFrom, trials, is_example_in, Small}
 use Rattle.enumerator.specs.Words.{words_of, path_in, has_trial}
 use Rattle.enumerator.specs.Machine.{goes_on_byte, trial_from?}
-use Rattle.trace_graph.proofs.Bools.{and_left, and_right, agree}
-use Rattle.enumerator.proofs.Nodes.{same_eq, same_refl}
+use Rattle.laws.proofs.Bools.{and_left, and_right, agree}
 use Rattle.enumerator.proofs.Exact.{sound, complete}
 use Rattle.enumerator.proofs.SameWords.{found_of_member, member_of_found}
+use Rattle.trace_graph.proofs.Labels.{node_refl, node_equal}
 
 module _ (G : Ends) where
   -- the edge's number, and the node that it enters
   enters : (e : ℕ) (v : Node) → (ltb e G.count && is_same_node (G.target e) v) ≡ true → (e < G.count) × (G.target e ≡ v)
   enters e v h =
-      (ltb-true e G.count (and_left (ltb e G.count) (is_same_node (G.target e) v) h), same_eq (G.target e) v (and_right (ltb e G.count) (is_same_node (G.target e) v) h))
+      (ltb-true e G.count (and_left (ltb e G.count) (is_same_node (G.target e) v) h), node_equal (G.target e) v (and_right (ltb e G.count) (is_same_node (G.target e) v) h))
 
   pub trial_passes : (p : Path) (us : List ℕ) (v : Node) → TrialFrom G us v p → trial_from? G us v p ≡ true
   unfolding trial_from? goes_on_byte
   trial_passes [] us v t = absurd t
-  trial_passes (e ∷ []) us v t = rw (lt-ltb e G.count t.0, t.1, same_refl v)
-  trial_passes (e ∷ f ∷ p) us v (n, a, b, c, d, t) = rw (lt-ltb e G.count a, b, same_refl v, c, d) (trial_passes (f ∷ p) (n ∷ us) (at_nonterminal n) t)
+  trial_passes (e ∷ []) us v t = rw (lt-ltb e G.count t.0, t.1, node_refl v)
+  trial_passes (e ∷ f ∷ p) us v (n, a, b, c, d, t) = rw (lt-ltb e G.count a, b, node_refl v, c, d) (trial_passes (f ∷ p) (n ∷ us) (at_nonterminal n) t)
 
   pub passes_trial : (p : Path) (us : List ℕ) (v : Node) → trial_from? G us v p ≡ true → TrialFrom G us v p
   unfolding trial_from? goes_on_byte

@@ -9,7 +9,7 @@ use Rattle.repr.specs.Lists.{some?}
 use Rattle.trace_graph.specs.Graph.{Node}
 use Rattle.enumerator.specs.Trials.{Path, Ends, IsTrial, trials, is_example_in, Small}
 use Rattle.enumerator.specs.Words.{words_of, path_in, has_trial, path_room}
-use Rattle.trace_graph.proofs.Bools.{and_left, and_right}
+use Rattle.laws.proofs.Bools.{and_left, and_right}
 use Rattle.enumerator.proofs.Short.{short_trial}
 use Rattle.enumerator.proofs.Exact.{sound, complete}
 use Rattle.enumerator.proofs.SameWords.{found_of_member, member_of_found}

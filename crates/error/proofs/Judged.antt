@@ -11,24 +11,9 @@ use Rattle.example.specs.Example.{ExampleSymbol, symbol, epsilon}
 use Rattle.error.specs.declared.Class.TheVariants.{Ambiguity, Precedence, AmbiguousReduction}
 use Rattle.error.specs.Sorted.{Pair}
 use Rattle.error.specs.Judge.{Example, with_both, reduction_at, same_symbols, is_operator_of, ambiguity_of_shift, ambiguity_of_reduce, ambiguity_of, diverge}
+use Rattle.trace_graph.proofs.Labels.{symbols_equal, symbols_refl}
 
 -- two lists of symbols are the same if the test says so, and only then
-
-same_list : (xs : List Symbol) → same_symbols xs xs ≡ true
-unfolding same_symbols
-same_list [] = refl
-same_list (x ∷ xs) = rw (same_refl x) (same_list xs)
-
-list_same : (xs ys : List Symbol) → same_symbols xs ys ≡ true → xs ≡ ys
-unfolding same_symbols
-list_same [] [] e = refl
-list_same [] (y ∷ ys) e = clash false e refl
-list_same (x ∷ xs) [] e = clash false e refl
-list_same (x ∷ xs) (y ∷ ys) e =
-    let rest = list_same xs ys in
-    cases (is_same_symbol x y)
-    (λ s. ap (λ (z : Symbol). z ∷ xs) (same_equal x y s) ∙ ap (λ (l : List Symbol). y ∷ l) (rest (rw s at e)))
-    (λ s. clash false (rw s at e) refl)
 
 -- `T = T S T`, S the terminal of the action
 abbrev pub operator_of : ℕ → ℕ → List Symbol
@@ -41,14 +26,14 @@ module _ (T : Table) (production operand : ℕ) (p : Pair Example) where
   pub is_precedence : reduced.symbols ≡ operator_of reduced.nonterminal operand → ambiguity_of T production 0 operand p ≡ with_both (Precedence (record { 0 = reduced.nonterminal })) p
   unfolding ambiguity_of ambiguity_of_shift is_operator_of
   is_precedence e =
-      let b : same_symbols reduced.symbols (operator_of reduced.nonterminal operand) ≡ true = rw e (same_list (operator_of reduced.nonterminal operand)) in
+      let b : same_symbols reduced.symbols (operator_of reduced.nonterminal operand) ≡ true = rw e (symbols_refl (operator_of reduced.nonterminal operand)) in
       rw (b, ambiguity_of_shift)
 
   pub not_precedence : (reduced.symbols ≡ operator_of reduced.nonterminal operand → ⊥) → ambiguity_of T production 0 operand p ≡ with_both Ambiguity p
   unfolding ambiguity_of ambiguity_of_shift is_operator_of
   not_precedence ne =
       let b : same_symbols reduced.symbols (operator_of reduced.nonterminal operand) ≡ false =
-      cases (same_symbols reduced.symbols (operator_of reduced.nonterminal operand)) (λ e. absurd (ne (list_same reduced.symbols (operator_of reduced.nonterminal operand) e))) (λ e. e) in
+      cases (same_symbols reduced.symbols (operator_of reduced.nonterminal operand)) (λ e. absurd (ne (symbols_equal reduced.symbols (operator_of reduced.nonterminal operand) e))) (λ e. e) in
       rw (b, ambiguity_of_shift)
 
   -- the conflict's span first, then the action's; the action's example alone

@@ -11,7 +11,7 @@ use Rattle.repr.specs.Packed as packed
 use Rattle.repr.proofs.Lists.{length_mapped, joined_append, clash}
 use Rattle.repr.proofs.Listed.{drop_two, fits_head}
 use Rattle.repr.proofs.Packed.{words_long}
-use Rattle.repr.proofs.Parts.{listed_at, symbols_long}
+use Rattle.repr.proofs.Parts.{listed_at, symbols_long, fits-drop, fits-take}
 use Rattle.lr1_core.specs.Items.{Sets, first, symbol_sets}
 use Rattle.example.specs.Example.{symbol, symbol_words, sets_of, cursor_of}
 use Rattle.example.specs.Labels.{labels_in, LabelsFit}
@@ -44,25 +44,6 @@ words-listed (k ∷ []) e = clash false e refl
 words-listed (zero ∷ x ∷ ws) e = ap (λ (l : List ℕ). 0 ∷ x ∷ l) (words-listed ws (fits-rest 32 63 0 x ws e).1)
 words-listed (suc zero ∷ x ∷ ws) e = ap (λ (l : List ℕ). 1 ∷ x ∷ l) (words-listed ws (fits-rest 32 63 1 x ws e).1)
 words-listed (suc (suc k) ∷ x ∷ ws) e = clash false e refl
-
-two_more : (j : ℕ) → 2 * suc j ≡ suc (suc (2 * j))
-two_more j = omega arith
-
-fits-drop : (n t i : ℕ) (ws : List ℕ) → list_is_fit n t ws ≡ true → list_is_fit n t (drop (2 * i) ws) ≡ true
-unfolding list_is_fit
-fits-drop n t zero ws e = e
-fits-drop n t (suc i) [] e = rw (two_more i)
-fits-drop n t (suc i) (k ∷ []) e = clash false e refl
-fits-drop n t (suc i) (k ∷ x ∷ ws) e = rw (two_more i) (fits-drop n t i ws (fits-rest n t k x ws e).1)
-
-fits-take : (n t i : ℕ) (ws : List ℕ) → list_is_fit n t ws ≡ true → list_is_fit n t (take (2 * i) ws) ≡ true
-unfolding list_is_fit
-fits-take n t zero ws e = refl
-fits-take n t (suc i) [] e = rw (two_more i)
-fits-take n t (suc i) (k ∷ []) e = clash false e refl
-fits-take n t (suc i) (k ∷ x ∷ ws) e =
-    let r = fits-rest n t k x ws e in
-    rw (two_more i) (rw r.0 (fits-take n t i ws r.1))
 
 -- a part, from the symbols that it lists
 part_of : (ws : List ℕ) (xs : List Symbol) → listed ws ≡ xs → list_is_fit nonterminal_limit terminal_limit ws ≡ true → Part ws xs

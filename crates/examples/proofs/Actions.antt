@@ -3,7 +3,7 @@ use Rattle.std.specs.Prelude.{◌&&◌, ltb, leb, length, Result, ◌≡◌, ℕ
 use native.Mathlib.Omega.{arith}
 use mathlib.Core.Path.{refl, sym, subst}
 use borrow.Author.Tests.{ne_eqb}
-use Rattle.trace_graph.proofs.Bools.{and_left, and_right}
+use Rattle.laws.proofs.Bools.{and_left, and_right}
 use Rattle.repr.specs.Meaning.{Table}
 use Rattle.error.specs.declared.Conflict.{Conflict}
 use Rattle.error.specs.Judge.{Example}

@@ -15,7 +15,7 @@ use Rattle.lookahead.proofs.Laws.{with_yes}
 use Rattle.lookahead.proofs.Sets.{union-zero-left}
 use Rattle.repr.specs.declared.StateIndex.{StateIndex}
 use Rattle.trace_graph.specs.Fits.{item_is_fit}
-use Rattle.trace_graph.proofs.Bools.{and_left, and_right}
+use Rattle.laws.proofs.Bools.{and_left, and_right}
 use Rattle.trace.specs.Reduce.{reduce_edges}
 use Rattle.trace.proofs.Traced.{item_fits}
 use Rattle.tracer.specs.declared.Action.TheVariants.{Reduce}
@@ -63,7 +63,7 @@ pub no_shift : (c : Conflict) → is_shift c ≡ false → c.action ≡ 0 → �
 unfolding is_shift
 no_shift c e = eqb-false c.action 0 e
 
-operand_reduce : (T : Table) (a o : ℕ) → operand_fits T a o ≡ true → (a ≡ 0 → ⊥) → o < length T.productions
+pub operand_reduce : (T : Table) (a o : ℕ) → operand_fits T a o ≡ true → (a ≡ 0 → ⊥) → o < length T.productions
 unfolding operand_fits
 operand_reduce T zero o e k = absurd (k refl)
 operand_reduce T (suc zero) o e k = ltb-true o (length T.productions) e

@@ -12,10 +12,9 @@ use Rattle.repr.proofs.Lists.{cases, keep-nil, keep-yes, keep_no, length-keep, l
 use Rattle.repr.proofs.Tests.{some?_elim, All_at}
 use Rattle.trace_graph.specs.Graph.{same_item}
 use Rattle.trace_graph.specs.Fits.{item_is_fit}
-use Rattle.trace_graph.proofs.Bools.{and_left, and_right}
+use Rattle.laws.proofs.Bools.{and_left, and_right}
 use Rattle.trace.specs.Shift.{shift_edges}
 use Rattle.trace.specs.Shifting.{item_of}
-use Rattle.trace.proofs.Once.{item_equal}
 use Rattle.trace.proofs.Traced.{item_fits}
 use Rattle.tracer.specs.declared.Action.TheVariants.{Shift}
 use Rattle.tracer.specs.Built.{edges_by}
@@ -33,6 +32,7 @@ use Rattle.repr.specs.declared.refusals.Refusal.{Refusal}
 use Rattle.repr.specs.Reply.{number_of}
 use Rattle.examples.specs.Gathers.{Stops, ListedBehind, ListedOn, TrialsIn, shift_made, SideKept, Sided}
 use Rattle.examples.proofs.Sides.{none_kept, shift_kept}
+use Rattle.trace_graph.proofs.Labels.{item_equal}
 
 -- the items that are left of a state's
 pub record Turn (T : Table) (s token : ℕ) (kept prints : List ℕ) (total trials : ℕ) (left : List Item) : Type 0 where

@@ -10,7 +10,6 @@ use Rattle.trace_graph.specs.Words.{edge_words}
 use Rattle.trace_graph.specs.Values.{node_is, edge_is, value_words}
 use Rattle.trace_graph.specs.Index.{InRange}
 use Rattle.trace_graph.proofs.Words.{edge_value, value_is, value_words_lem}
-use Rattle.trace_graph.proofs.Fits.{productions_long}
 use Rattle.trace.specs.Sound as sound
 use Rattle.trace.specs.Traced.{owner_of}
 use Rattle.trace.proofs.Steps.{packed_owner}
@@ -26,6 +25,7 @@ use Rattle.codes.specs.Coded.{no_edge}
 use Rattle.codes.specs.Carried.{Decodes, Carried}
 use Rattle.codes.proofs.Decoded.{label_is}
 use Rattle.codes.proofs.Writing.{decodes}
+use Rattle.repr.proofs.Packed.{productions_long}
 
 -- the value of an edge's words is the edge
 value_same : (v u : EdgeValue) → value_words v ≡ value_words u → v ≡ u

@@ -6,7 +6,6 @@ use Rattle.repr.specs.Sizes.{index_limit, item_limit}
 use Rattle.repr.specs.Lists.{up_from, below, keep}
 use Rattle.repr.specs.Meaning.{Table}
 use Rattle.repr.proofs.Lists.{cases, clash, get_d_map, get_d_up_from, length-up_from, length_mapped}
-use Rattle.lookahead.proofs.Growing.{get_d_none}
 use Rattle.build.specs.States.{places, closure}
 use Rattle.build.proofs.Rounds.{Sized}
 use Rattle.build.proofs.Closure.{closure_sized}
@@ -18,6 +17,7 @@ use Rattle.stored.proofs.Packed.{held_none, held-some}
 use Rattle.kept_states.specs.Kept.{unpacked, put_all}
 use Rattle.kept_states.proofs.Flat.{unpacked-packed}
 use Rattle.finding.specs.Search.{KernelIn, Stored}
+use Rattle.laws.proofs.Lists.{zero_at}
 
 -- `append`
 
@@ -95,14 +95,14 @@ kernel_few ks many P few k =
 
 -- `close`
 
-padded_fits : (M : List ℕ) (n : ℕ) → ((x : ℕ) → get_or M x 0 < 2 ^ 64) → (x : ℕ) → get_or (M ++ replicate n 0) x 0 < 2 ^ 64
+pub padded_fits : (M : List ℕ) (n : ℕ) → ((x : ℕ) → get_or M x 0 < 2 ^ 64) → (x : ℕ) → get_or (M ++ replicate n 0) x 0 < 2 ^ 64
 padded_fits M n f x =
     cases (ltb x (length M))
     (λ t. rw (get_or-append M (replicate n 0) 0 x (ltb-true x (length M) t)) (f x))
     (λ t.
     let u = ltb-false x (length M) t in
     let q : length M + (x - length M) ≡ x = omega arith in
-    let z : get_or (M ++ replicate n 0) x 0 ≡ 0 = ap (λ (y : ℕ). get_or (M ++ replicate n 0) y 0) (sym q) ∙ get_or-append-add M (replicate n 0) (x - length M) 0 ∙ get_d_none n (x - length M) in
+    let z : get_or (M ++ replicate n 0) x 0 ≡ 0 = ap (λ (y : ℕ). get_or (M ++ replicate n 0) y 0) (sym q) ∙ get_or-append-add M (replicate n 0) (x - length M) 0 ∙ zero_at n (x - length M) in
     rw z (omega arith))
 
 module _ (ks : List ℕ) (many P : ℕ) (few : P ≤ 128) where

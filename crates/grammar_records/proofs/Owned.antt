@@ -19,7 +19,8 @@ use Rattle.repr.proofs.Tests.{first?-yes, first?_no, first?_at}
 use Rattle.spelling.specs.Spelled.{productions_at, symbols_at, owns, record_or, next_owned_from}
 use Rattle.spelling.proofs.Places.{begins}
 use Rattle.grammar_records.specs.Target.{PackedAs, number_or, owned_from}
-use Rattle.grammar_records.proofs.Packed.{many_packed, row_at, many_of}
+use Rattle.grammar_records.proofs.Packed.{row_at, many_of}
+use Rattle.repr.proofs.Packed.{productions_long}
 
 -- what is found from p on lies below the end
 pub found_below : (t : ℕ → Bool) (p m q : ℕ) → first? t (up_from p (m - p)) ≡ some q → q < m
@@ -86,18 +87,18 @@ module _ (g : List ℕ) (n owner from : ℕ) (P : Packed g n) where
   is p = get_or g (production_place p) 0 ≡ owner
 
   found : (p : ℕ) → p < n → is p → owned_from (productions_in g n) owner p ≡ p
-  found p h z = let m = many_packed g n in owned-found (productions_in g n) owner p (omega arith) (sym (row_at g n p P h).owner ∙ z)
+  found p h z = let m = productions_long g n in owned-found (productions_in g n) owner p (omega arith) (sym (row_at g n p P h).owner ∙ z)
 
   past : (p k : ℕ) → p + k ≤ n → ((q : ℕ) → p ≤ q → q < p + k → is q → ⊥) → owned_from (productions_in g n) owner p ≡ owned_from (productions_in g n) owner (p + k)
   past p zero h f = let z : p + 0 ≡ p = omega arith in rw z refl
   past p (suc k) h f =
-      let m = many_packed g n in
+      let m = productions_long g n in
       let e : p + 1 + k ≡ p + suc k = omega arith in
       owned_on (productions_in g n) owner p (omega arith) (λ q. f p (omega arith) (omega arith) ((row_at g n p P (omega arith)).owner ∙ q))
       ∙ rw e at (past (p + 1) k (omega arith) (λ q l u. f q (omega arith) (omega arith)))
 
   none_left : (p : ℕ) → n ≤ p → owned_from (productions_in g n) owner p ≡ n
-  none_left p h = let m = many_packed g n in owned_end (productions_in g n) owner p (omega arith) ∙ m
+  none_left p h = let m = productions_long g n in owned_end (productions_in g n) owner p (omega arith) ∙ m
 
   pub owned_first : (r : Found ℕ) → MatchOption r ((k : ℕ) → from ≤ k → k < n → is k → ⊥) (λ i. (from ≤ i) × (i < n) × is i × ((k : ℕ) → from ≤ k → k < i → is k → ⊥))
       → let p = owned_from (productions_in g n) owner from in MatchOption r (p ≡ n) (λ q. (q < n) × (p ≡ q))

@@ -16,10 +16,7 @@ use Rattle.repr.proofs.Lists.{length-map-below, get_d_map-below}
 use Rattle.repr.proofs.Parts.{symbols_long}
 use Rattle.spelling.specs.Spelled.{place_of, size_of}
 use Rattle.grammar_records.specs.Target.{PackedAs}
-
-pub many_packed : (g : List ℕ) (n : ℕ) → length (productions_in g n) ≡ n
-unfolding productions_in
-many_packed g n = length-map-below (production_in g) n
+use Rattle.repr.proofs.Packed.{productions_long}
 
 -- production p of the packed ones
 pub record Row (g : List ℕ) (p : ℕ) (q : Production) : Type 0 where
@@ -42,7 +39,7 @@ pub row_of : (U : Table) (g : List ℕ) (n p : ℕ) → PackedAs U g n → p < n
 row_of U g n p P h = rw P.same at (row_at g n p P.packed h)
 
 pub many_of : (U : Table) (g : List ℕ) (n : ℕ) → PackedAs U g n → length U.productions ≡ n
-many_of U g n P = sym (ap length P.same) ∙ many_packed g n
+many_of U g n P = sym (ap length P.same) ∙ productions_long g n
 
 pub packed-inside : (U : Table) (g : List ℕ) (n p : ℕ) → PackedAs U g n → p < n → p < length U.productions
 packed-inside U g n p P h = let m = many_of U g n P in omega arith

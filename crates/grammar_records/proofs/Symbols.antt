@@ -26,18 +26,7 @@ use Rattle.spelling.proofs.Grown.{grown-none, grown-join, grown-put, head-none, 
 use Rattle.spelling.proofs.Writing.{room_same}
 use Rattle.grammar_records.specs.Target.{PackedAs}
 use Rattle.grammar_records.proofs.Packed.{row_of, many_of, packed-inside, place_end}
-
--- a symbol's words
-kind_of_lem : (k x : ℕ) → k < 2 → kind_of (symbol_of_kind k x) ≡ k
-unfolding kind_of symbol_of_kind
-kind_of_lem zero x h = refl
-kind_of_lem (suc zero) x h = refl
-kind_of_lem (suc (suc k)) x h = absurd (omega arith)
-
-number_of_lem : (k x : ℕ) → number_of (symbol_of_kind k x) ≡ x
-unfolding number_of symbol_of_kind
-number_of_lem zero x = refl
-number_of_lem (suc k) x = refl
+use Rattle.spelling.proofs.Sources.{kind-back, number-back}
 
 -- chunk k of two words, where the chunks from it on are left
 module _ (ws x r : List ℕ) (k : ℕ) (e : drop (2 * k) ws ≡ x ++ r) (two : length x ≡ 2) where
@@ -121,8 +110,8 @@ module _ (ws : List ℕ) (begin : ℕ) where
           let r = (symbol_range nonterminal_limit terminal_limit (get_or ws i 0) (get_or ws (i + 1) 0) (fits_head nonterminal_limit terminal_limit ws i h C.fits).1.0).0 in
           let G : Grown U g g' at (at + 1) =
           rw eg (grown-put U g at next kind number 0 written-room.1
-          (follower next f ∙ sym (spell_next U at _ here.0)) (ek ∙ sym (kind_of_lem (get_or ws i 0) (get_or ws (i + 1) 0) r) ∙ sym (spell_one U at _ here.0))
-          (en ∙ sym (number_of_lem (get_or ws i 0) (get_or ws (i + 1) 0)) ∙ sym (spell_two U at _ here.0)) (sym (spell_three U at _ here.0))) in
+          (follower next f ∙ sym (spell_next U at _ here.0)) (ek ∙ sym (kind-back (get_or ws i 0) (get_or ws (i + 1) 0) r) ∙ sym (spell_one U at _ here.0))
+          (en ∙ sym (number-back (get_or ws i 0) (get_or ws (i + 1) 0)) ∙ sym (spell_two U at _ here.0)) (sym (spell_three U at _ here.0))) in
           record { grown = grown-join U g₀ g g' begin at (at + 1) W.grown G; stands = here.1; room = room_same U g g' G.long W.room }
 
   pub chain_room : (U : Table) (g : List ℕ) → Stands (quads U) begin (chain_from symbol_quad begin (listed ws)) → Room U g → begin + length (listed ws) ≤ record_limit

@@ -19,15 +19,9 @@ use Rattle.example.proofs.Sizes.{twos, length-words}
 use Rattle.error.specs.Judge.{Example, cursor_at, same_example_symbol, same_example_symbols, is_same_reading}
 use Rattle.outline.proofs.Prints.{count_in}
 use Rattle.judge.specs.Judging.{InBuffer}
+use Rattle.slices.proofs.Same.{same_pointwise}
 
 -- what `==` answers of two slices
-
-same_pointwise : (us vs : List ℕ) → pointwise eqb us vs ≡ same_words us vs
-unfolding same_words
-same_pointwise [] [] = refl
-same_pointwise [] (v ∷ vs) = refl
-same_pointwise (u ∷ us) [] = refl
-same_pointwise (u ∷ us) (v ∷ vs) = ap (λ (b : Bool). eqb u v && b) (same_pointwise us vs)
 
 -- the words of symbols are the same where the symbols are
 

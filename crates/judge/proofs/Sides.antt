@@ -16,7 +16,6 @@ use Rattle.repr.specs.Meaning.{Production, no_production, Table, TableFits, Prod
 use Rattle.repr.specs.Listed.{symbol_of_kind}
 use Rattle.repr.specs.Packed.{Packed, productions_in}
 use Rattle.repr.proofs.Lists.{clash}
-use Rattle.repr.proofs.Listed.{and_left, and_right}
 use Rattle.repr.proofs.Tests.{All_at, All_intro}
 use Rattle.slices.specs.Lent.{in_front}
 use Rattle.table.specs.Decoded.{meaning}
@@ -47,6 +46,9 @@ use Rattle.examples.specs.Gathers.{ExampleFits, SideKept, is_shift, reduce_made}
 use Rattle.judge.specs.declared.Judged.{Judged as JudgedValue}
 use Rattle.judge.specs.Judging.{InBuffer, Sides, Ordered, picked, pair_in, heads_in, both, Judges, found_in, FoundFits, ReadAlike, question_in}
 use Rattle.judge.proofs.Ways.{owner_is, question_kind, judges_both, judges_heads}
+use Rattle.laws.proofs.Bools.{and_left, and_right}
+use Rattle.examples.proofs.Again.{is_shift_lem}
+use Rattle.examples.proofs.Both.{operand_reduce}
 
 -- what holds of an order's numbers
 order_at : (P : ℕ → Type 0) (order : List ℕ) (i x : ℕ) → All P order → i < length order → x ≡ get_or order i 0 → P x
@@ -91,12 +93,6 @@ first_small ps (l ∷ ls) X = rw (first_reduction ps l ls) X.each.0.nonterminal
 
 -- what a conflict in range gives
 
-operand_inside : (T : Table) (k o : ℕ) → operand_fits T k o ≡ true → (k ≡ 0 → ⊥) → o < length T.productions
-unfolding operand_fits
-operand_inside T zero o e ne = absurd (ne refl)
-operand_inside T (suc zero) o e ne = ltb-true o (length T.productions) e
-operand_inside T (suc (suc k)) o e ne = clash false e refl
-
 module _ (T : Table) (c : Conflict) (f : conflict_fits T c ≡ true) where
   placed : place_is_fit T c ≡ true
   unfolding conflict_fits
@@ -112,11 +108,7 @@ module _ (T : Table) (c : Conflict) (f : conflict_fits T c ≡ true) where
 
   pub conflict_operand : (c.action ≡ 0 → ⊥) → c.operand < length T.productions
   unfolding place_is_fit
-  conflict_operand ne = operand_inside T c.action c.operand (and_right (ltb c.production.0 (length T.productions)) _ (and_right (ltb c.state.0 (length T.states)) _ placed)) ne
-
-shift_is : (c : Conflict) → c.action ≡ 0 → is_shift c ≡ true
-unfolding is_shift
-shift_is c e = eq-eqb c.action 0 e
+  conflict_operand ne = operand_reduce T c.action c.operand (and_right (ltb c.production.0 (length T.productions)) _ (and_right (ltb c.state.0 (length T.states)) _ placed)) ne
 
 -- what is read of a table
 
@@ -232,10 +224,10 @@ module _ (T : Table) (c : Conflict) (xs ys : List Example) (actions prints reduc
 
   module _ (F : TableFits T) (shift : c.action ≡ 0) where
     outlined : Outlined ps true xs actions prints
-    outlined = rw (shift_is c shift) at S.action.outlined
+    outlined = rw (is_shift_lem c shift) at S.action.outlined
 
     shifting : All (Shifts ps) xs
-    shifting = all-nth (Shifts ps) xs (S.action.shifts (shift_is c shift))
+    shifting = all-nth (Shifts ps) xs (S.action.shifts (is_shift_lem c shift))
 
     labelled : All (All (LabelFits ps)) xs
     labelled = all-nth (All (LabelFits ps)) xs (λ k h. (S.action.fits k h).each)

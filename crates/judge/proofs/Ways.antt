@@ -19,9 +19,9 @@ use Rattle.repr.specs.Listed.{symbol_of_kind, listed, symbol_is_fit, list_is_fit
 use Rattle.repr.specs.Packed.{Packed, symbol_words, production_in, productions_in}
 use Rattle.repr.proofs.Lists.{cases, clash, get_d_map-below}
 use Rattle.repr.proofs.Tests.{All_at}
-use Rattle.repr.proofs.Listed.{and_left, and_right, fits_head, symbol_range}
+use Rattle.repr.proofs.Listed.{fits_head, symbol_range}
 use Rattle.repr.proofs.Packed.{words_long}
-use Rattle.repr.proofs.Parts.{listed_at, symbols_long, word_of}
+use Rattle.repr.proofs.Parts.{listed_at, symbols_long, word_of, two_more}
 use Rattle.trace_graph.proofs.Fits.{production-symbols}
 use Rattle.table.specs.Checked.{Accepted}
 use Rattle.table.specs.Decoded.{meaning, productions_from}
@@ -37,6 +37,7 @@ use Rattle.outline.specs.Kept.{nth}
 use Rattle.shift_items.specs.Codes.{Grammar}
 use Rattle.judge.specs.declared.Judged.{Judged as JudgedValue}
 use Rattle.judge.specs.Judging.{pair_in, heads_in, both, shown_in, judged_in, ShownFits, Judges, question_in, optional_one}
+use Rattle.laws.proofs.Bools.{and_left, and_right}
 
 -- a class with the numbers of the examples shown
 
@@ -82,9 +83,6 @@ same_listed (k ∷ x ∷ us) (m ∷ y ∷ vs) f d =
     let s = and_left (symbol_is_fit nonterminal_limit terminal_limit k x) (list_is_fit nonterminal_limit terminal_limit us) f in
     let rest = same_listed us vs (and_right (symbol_is_fit nonterminal_limit terminal_limit k x) (list_is_fit nonterminal_limit terminal_limit us) f) d.1 in
     two_same k x m y (symbol_range nonterminal_limit terminal_limit k x s).0 d.0 (pointwise eqb us vs) ∙ rw rest
-
-two_more : (j : ℕ) → 2 * suc j ≡ suc (suc (2 * j))
-two_more j = omega arith
 
 fits-drop : (i : ℕ) (ws : List ℕ) → list_is_fit nonterminal_limit terminal_limit ws ≡ true → list_is_fit nonterminal_limit terminal_limit (drop (2 * i) ws) ≡ true
 unfolding list_is_fit

@@ -9,11 +9,11 @@ use borrow.Author.Tests.{eqb-true, eqb-false, ltb-true, ltb-false}
 use Rattle.repr.specs.Sizes.{item_limit}
 use Rattle.repr.specs.Lists.{up_from, below, keep}
 use Rattle.repr.proofs.Lists.{cases}
-use Rattle.lookahead.proofs.Growing.{get_d_none}
 use Rattle.stored.specs.Stored.{Entry, entry_at, entries, put_entry, held, packed}
 use Rattle.stored.proofs.Stored.{entries-more, entries_same, put_here, put_other, length-put}
 use Rattle.stored.proofs.Packed.{held_none, held-some}
 use Rattle.kept_states.specs.Kept.{puts, unpacked, put_all}
+use Rattle.laws.proofs.Lists.{zero_at}
 
 -- flat again
 
@@ -83,13 +83,13 @@ unpacked-packed M h =
     cases (ltb i (length M))
     (λ t.
     let u = ltb-true i (length M) t in
-    puts-inside M (replicate item_limit 0) 0 (length M) i (omega arith) (omega arith) (rw (length-replicate {A = ℕ} item_limit 0) m) (get_d_none item_limit i)
+    puts-inside M (replicate item_limit 0) 0 (length M) i (omega arith) (omega arith) (rw (length-replicate {A = ℕ} item_limit 0) m) (zero_at item_limit i)
     ∙ sym (get_or-append M (replicate (item_limit - length M) 0) 0 i u))
     (λ t.
     let u = ltb-false i (length M) t in
     let q : length M + (i - length M) ≡ i = omega arith in
-    puts-behind M (replicate item_limit 0) 0 (length M) i (omega arith) ∙ get_d_none item_limit i
-    ∙ sym (ap (λ (y : ℕ). get_or (M ++ replicate (item_limit - length M) 0) y 0) (sym q) ∙ get_or-append-add M (replicate (item_limit - length M) 0) (i - length M) 0 ∙ get_d_none (item_limit - length M) (i - length M))))
+    puts-behind M (replicate item_limit 0) 0 (length M) i (omega arith) ∙ zero_at item_limit i
+    ∙ sym (ap (λ (y : ℕ). get_or (M ++ replicate (item_limit - length M) 0) y 0) (sym q) ∙ get_or-append-add M (replicate (item_limit - length M) 0) (i - length M) 0 ∙ zero_at (item_limit - length M) (i - length M))))
 
 -- stored
 

@@ -9,7 +9,7 @@ use Rattle.std.proofs.Math.ListN.{drop_of_length-le}
 use borrow.Author.Tests.{eqb-true, eqb-false}
 use Rattle.repr.specs.Sizes.{item_limit}
 use Rattle.repr.specs.Lists.{up_from, below, keep}
-use Rattle.repr.proofs.Lists.{cases}
+use Rattle.repr.proofs.Lists.{cases, up_from_more, up_from_end}
 use Rattle.stored.specs.Stored.{Entry, entry_at, entries, put_entry, held, packed, is_same_kernel}
 use Rattle.std.specs.Option.{MatchOption}
 use Rattle.std.proofs.Common.{Option, Some, None, length-set}
@@ -48,24 +48,16 @@ unpack_end S rest all h u = rw (all_none rest h) at u.put
 
 -- the places of a range
 
-range_more : (p n : ℕ) → p < n → up_from p (n - p) ≡ p ∷ up_from (p + 1) (n - (p + 1))
-unfolding up_from
-range_more p n h = let z : n - p ≡ suc (n - (p + 1)) = omega arith in rw (z, add-one p) refl
-
-range_end : (p n : ℕ) → n ≤ p → up_from p (n - p) ≡ []
-unfolding up_from
-range_end p n h = let z : n - p ≡ 0 = omega arith in rw z refl
-
 module _ (S : List ℕ) (p n s : ℕ) (h : p < n) (e : s ≡ get_or S p 0) where
   held_skip : s ≡ 0 → held S (up_from p (n - p)) ≡ held S (up_from (p + 1) (n - (p + 1)))
-  held_skip z = rw (range_more p n h) (held_none S p (up_from (p + 1) (n - (p + 1))) (sym e ∙ z))
+  held_skip z = rw (up_from_more p n h) (held_none S p (up_from (p + 1) (n - (p + 1))) (sym e ∙ z))
 
   held_here : (s ≡ 0 → ⊥) → held S (up_from p (n - p)) ≡ record { place = p; set = s } ∷ held S (up_from (p + 1) (n - (p + 1)))
-  held_here z = rw (range_more p n h, e) (held-some S p (up_from (p + 1) (n - (p + 1))) (λ q. z (e ∙ q)))
+  held_here z = rw (up_from_more p n h, e) (held-some S p (up_from (p + 1) (n - (p + 1))) (λ q. z (e ∙ q)))
 
 held_end : (S : List ℕ) (p n : ℕ) → n ≤ p → held S (up_from p (n - p)) ≡ []
 unfolding keep
-held_end S p n h = rw (range_end p n h) refl
+held_end S p n h = rw (up_from_end p n h) refl
 
 -- counting them
 
@@ -153,7 +145,7 @@ abbrev pub from_state : List ℕ → List ℕ → ℕ → ℕ → List (List Ent
 from_state ws bs k n = map (state_in ws bs) (up_from k (n - k))
 
 from_more : (ws bs : List ℕ) (k n : ℕ) → k < n → from_state ws bs k n ≡ state_in ws bs k ∷ from_state ws bs (k + 1) n
-from_more ws bs k n h = rw (range_more k n h) refl
+from_more ws bs k n h = rw (up_from_more k n h) refl
 
 find-start : (ks : List Entry) (ws bs : List ℕ) (n : ℕ) → 0 + kernel_place ks (from_state ws bs 0 n) ≡ kernel_place ks (states_in ws bs n)
 unfolding states_in below
@@ -182,7 +174,7 @@ module _ (ks : List Entry) (ws bs : List ℕ) (k n all : ℕ) (b : Bool) (e : b 
 
 find_end : (ks : List Entry) (ws bs : List ℕ) (k n all : ℕ) → k ≤ n → n ≤ k → k + kernel_place ks (from_state ws bs k n) ≡ all → all ≡ n
 unfolding kernel_place
-find_end ks ws bs k n all l h q = let w : k + 0 ≡ all = rw (range_end k n h) at q in omega arith
+find_end ks ws bs k n all l h q = let w : k + 0 ≡ all = rw (up_from_end k n h) at q in omega arith
 
 -- the first state whose kernel is this one, as the library's search says it
 pub found_first : (ks : List Entry) (ws bs : List ℕ) (n : ℕ) (r : Option ℕ) → MatchOption r ((k : ℕ) → 0 ≤ k → k < n → is_same_kernel (state_in ws bs k) ks ≡ false) (λ i. (0 ≤ i) × (i < n) × (is_same_kernel (state_in ws bs i) ks ≡ true) × ((k : ℕ) → 0 ≤ k → k < i → is_same_kernel (state_in ws bs k) ks ≡ false))

@@ -23,6 +23,7 @@ use Rattle.stored.proofs.Packed.{held_none, held-some}
 use Rattle.kept_states.specs.Kept.{kernel_place}
 use Rattle.kept_states.specs.Made.{Made, first, next}
 use Rattle.kept_states.proofs.Kept.{place-yes, place_no}
+use Rattle.laws.proofs.Bools.{agree as same_truth}
 
 -- the sets past index 0 are the same, over a range of places
 unfoldable agree : List ℕ → List ℕ → ℕ → ℕ → Bool
@@ -155,12 +156,6 @@ pub record Kernel (T : Table) (M : List ℕ) : Type 0 where
 -- compared before it is closed
 abbrev pub Told : Table → List ℕ → Type 0
 Told T R = (M : List ℕ) → Kernel T M → is_same_kernel (packed R) (packed M) ≡ same_words (closure T M) R
-
-same_truth : (a b : Bool) → (a ≡ true → b ≡ true) → (b ≡ true → a ≡ true) → a ≡ b
-same_truth true true f g = refl
-same_truth false false f g = refl
-same_truth true false f g = sym (f refl)
-same_truth false true f g = g refl
 
 -- not nothing
 nothing-not : (T : Table) (M : List ℕ) → Kernel T M → ((x : ℕ) → x < places T → (x % index_limit ≡ 0 → ⊥) → get_or M x 0 ≡ 0) → ⊥

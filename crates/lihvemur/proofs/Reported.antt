@@ -23,6 +23,7 @@ use Rattle.lihvemur.proofs.Numbered.{told_some, told_none}
 use Rattle.lihvemur.specs.Reports.{packed, class_numbers, classified_numbers, choice_numbers, chosen_numbers, short_numbers, choose_numbers, part_numbers, observed_numbers}
 use Rattle.report.specs.declared.Part.{Part}
 use Rattle.report.specs.declared.Part.TheVariants.{Action, Reduce}
+use Rattle.laws.proofs.Lists.{empty as none}
 
 -- ---- a class in numbers
 pub pack_is : (a b c d : ℕ) → a + 65536 * (b + 65536 * (c + 65536 * d)) ≡ packed (a ∷ b ∷ c ∷ d ∷ [])
@@ -53,11 +54,6 @@ module _ (class values m n : ℕ) (c : Result Classification Refusal) (x y : ℕ
   pub classify-refused : f ≡ None → class_numbers x y class values m n scratch action reduce ≡ classified_numbers class values m n o
   unfolding classified_numbers reading_of
   classify-refused q = told_none c x y f h q (λ v w. class_numbers v w class values m n scratch action reduce) _ (λ z k. rw (sym e ∙ ap from k))
-
--- ---- choose
-none : (l : List ℕ) → length l ≡ 0 → l ≡ []
-none [] e = refl
-none (x ∷ l) e = absurd (omega arith)
 
 module _ (count : ℕ) (old t : List ℕ) (c : Conflict) (tokens : ℕ) (scratch : List ℕ) (r : Result Chosen Refusal) (last : List ℕ) where
   module _ (long : entries_room ≤ length old) (e : choosing (choice_in r) last ≡ choose_of t c tokens scratch) where

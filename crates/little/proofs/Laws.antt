@@ -7,6 +7,7 @@ use native.Mathlib.Omega.{arith}
 use lib.ListN.{length, get_or, take, drop, set, length-set, length-drop, take-append-drop}
 use lib.Seq.{drop-cons, take-suc-set, drop-set-lt, drop-drop, take_at}
 use Rattle.little.specs.Little.{words_of, encoded}
+use Rattle.laws.proofs.Lists.{empty}
 
 none : (bs : List ℕ) → length bs < 2 → words_of bs ≡ []
 unfolding words_of
@@ -54,10 +55,6 @@ pub encoded-length : (ws : List ℕ) → length (encoded ws) ≡ length ws * 2
 unfolding encoded
 encoded-length [] = refl
 encoded-length (w ∷ ws) = ap (λ (n : ℕ). suc (suc n)) (encoded-length ws) ∙ omega arith
-
-empty : (ws : List ℕ) → length ws ≡ 0 → ws ≡ []
-empty [] h = refl
-empty (w ∷ ws) h = absurd (omega arith)
 
 -- the bytes of the first i words are written
 pub record Spread (words out₀ : List ℕ) (out : List ℕ) (i : ℕ) : Type 0 where

@@ -14,6 +14,7 @@ use Rattle.slices.proofs.Same.{same_words_eq, eq_same_words}
 use Rattle.repr.proofs.Lists.{cases, clash}
 use Rattle.lookahead.specs.Tokens.{Within}
 use Rattle.lookahead.proofs.Sets.{within_refl, within_trans, within_none, within_antisym, within_le}
+use Rattle.laws.proofs.Lists.{zero_at}
 
 -- every set of the one list within that of the other
 abbrev pub Inside : List ℕ → List ℕ → Type 0
@@ -28,14 +29,8 @@ inside_trans S R Q f g n = within_trans (get_or S n 0) (get_or R n 0) (get_or Q 
 pub inside_antisym : (S R : List ℕ) → length S ≡ length R → Inside S R → Inside R S → S ≡ R
 inside_antisym S R l f g = ext_get_or 0 S R l (λ i h. within_antisym (get_or S i 0) (get_or R i 0) (f i) (g i))
 
-pub get_d_none : (n k : ℕ) → ◌≡◌ {A = ℕ} (get_or (replicate n 0) k 0) 0
-get_d_none n k =
-    cases (ltb k n)
-    (λ t. get_or-replicate n k 0 0 (ltb-true k n t))
-    (λ t. get_or-eq_default (replicate n 0) 0 (rw (length-replicate {A = ℕ} n 0) (ltb-false k n t)))
-
 pub inside-none : (n : ℕ) (R : List ℕ) → Inside (replicate n 0) R
-inside-none n R k = rw (get_d_none n k) (within_none (get_or R k 0))
+inside-none n R k = rw (zero_at n k) (within_none (get_or R k 0))
 
 -- what lies between two that are the same is the same as both
 pub same_between : (S R Q : List ℕ) → length S ≡ length R → Inside S R → Inside R Q → same_words Q S ≡ (same_words R S && same_words Q R)
@@ -86,7 +81,7 @@ pub record Sized (n : ℕ) (S : List ℕ) : Type 0 where
   pub fits : (k : ℕ) → get_or S k 0 < 2 ^ 64
 
 pub none_sized : (n : ℕ) → Sized n (replicate n 0)
-none_sized n = record { long = length-replicate {A = ℕ} n 0; fits = λ k. rw (get_d_none n k) (omega arith) }
+none_sized n = record { long = length-replicate {A = ℕ} n 0; fits = λ k. rw (zero_at n k) (omega arith) }
 
 pub total_lt : (n : ℕ) (S : List ℕ) → 0 < n → Sized n S → total S < n * 2 ^ 64
 total_lt n S h z = let l : total S + length S ≤ length S * 2 ^ 64 = total_few (2 ^ 64) S z.fits in omega (arith, rw z.long at l)

@@ -19,7 +19,6 @@ use Rattle.lookahead.proofs.Laws.{has-none, has-without, without_no}
 use Rattle.table.specs.Checked.{Accepted}
 use Rattle.table.specs.Decoded.{meaning}
 use Rattle.table.specs.Refusals.{check_of}
-use Rattle.table.proofs.Chains.{and-true as both_true}
 use Rattle.table.proofs.Accepted.{accepts}
 use Rattle.table.proofs.Decoding.{symbol_fits, fits, owned}
 use Rattle.first.specs.declared.Answer.{Answer}
@@ -30,6 +29,7 @@ use Rattle.first.proofs.Join.{join-left, join_right, join_cases, join-single_rig
 use Rattle.first.proofs.Textbook.{first-terminal, first_end, first-only, first-none}
 use Rattle.lr1.specs.Entries.{over_table, symbols_fit, tokens_fit, first0_answer, first0_of, first1_answer, first1_of}
 use Rattle.lr1.specs.Textbook.{IsFirst, IsFirst1}
+use Rattle.laws.proofs.Bools.{and-true as both_true}
 
 listed-fits : (T : Table) (ws : List ℕ) → list_is_fit (length T.nonterminals) T.terminals ws ≡ true → All (SymbolFits T) (listed ws)
 unfolding list_is_fit listed All

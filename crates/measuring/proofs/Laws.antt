@@ -13,7 +13,6 @@ use Rattle.repr.specs.Sizes.{record_limit, index_limit, item_limit}
 use Rattle.repr.specs.Lists.{up_from, below, keep, joined}
 use Rattle.repr.specs.Meaning.{Edge, Table, TableFits}
 use Rattle.repr.proofs.Lists.{cases, below_last, length_mapped, length-up_from, length-keep, length-below}
-use Rattle.lookahead.proofs.Growing.{get_d_none}
 use Rattle.build.specs.States.{places, reduces, shifts, clashes_of, clashes}
 use Rattle.build.specs.Canonical.{Clash}
 use Rattle.lookahead.specs.Tokens.{has, meet, members}
@@ -29,7 +28,7 @@ use Rattle.kept_states.specs.Kept.{unpacked, state_in}
 use Rattle.kept_states.proofs.Flat.{unpacked-packed}
 use Rattle.kept_states.proofs.Holds.{sum-append, holds_counted}
 use Rattle.kept_states.proofs.Kernels.{made_sized}
-use Rattle.finding.proofs.Laws.{entry_places}
+use Rattle.finding.proofs.Laws.{entry_places, padded_fits}
 use Rattle.taking.specs.Taking.{edge_of, edges_in}
 use Rattle.taking.proofs.Laws.{map_last}
 use Rattle.collecting.specs.Rows.{row_in, rows_in}
@@ -38,16 +37,9 @@ use Rattle.finding.specs.declared.Halt.TheVariants.{Records}
 use Rattle.finding.specs.declared.Sizes.{Sizes}
 use Rattle.measuring.specs.declared.KeptStates.{KeptStates}
 use Rattle.measuring.specs.Complete.{Collection, Complete, MeasuredAs}
+use Rattle.laws.proofs.Lists.{zero_at}
 
 -- a state flat again
-
-padded : (M : List ℕ) (n : ℕ) → ((x : ℕ) → get_or M x 0 < 2 ^ 64) → (x : ℕ) → get_or (M ++ replicate n 0) x 0 < 2 ^ 64
-padded M n f x =
-    cases (ltb x (length M))
-    (λ t. rw (get_or-append M (replicate n 0) 0 x (ltb-true x (length M) t)) (f x))
-    (λ t.
-    let q : length M + (x - length M) ≡ x = omega (arith, ltb-false x (length M) t) in
-    rw (← q, get_or-append-add M (replicate n 0) (x - length M) 0, get_d_none n (x - length M)) (omega arith))
 
 module _ (kept : KeptStates) (s : Collection kept) (k : ℕ) (h : k < kept.begins.now.states) where
   abbrev ws : List ℕ
@@ -89,7 +81,7 @@ module _ (kept : KeptStates) (s : Collection kept) (k : ℕ) (h : k < kept.begin
     at_flat = record {
       long = ap length flat_is ∙ length-append (get_or s.Rs k []) (replicate (item_limit - length (get_or s.Rs k [])) 0)
           ∙ rw (length-replicate {A = ℕ} (item_limit - length (get_or s.Rs k [])) 0, long) (omega (arith, s.grammar.packed.few));
-      fits = λ x. rw flat_is (padded (get_or s.Rs k []) (item_limit - length (get_or s.Rs k [])) sized.fits x);
+      fits = λ x. rw flat_is (padded_fits (get_or s.Rs k []) (item_limit - length (get_or s.Rs k [])) sized.fits x);
     }
 
     pub at_state : take (index_limit * P) K ≡ get_or s.Rs k []

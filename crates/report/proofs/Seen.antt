@@ -9,12 +9,12 @@ use lib.Seq.{length-take-le}
 use lib.Dec.{leb}
 use borrow.Author.Tests.{le-leb, lt-leb, leb-true}
 use Rattle.repr.specs.Sizes.{reduction_place}
-use Rattle.table.proofs.Chains.{and-true}
 use Rattle.repr.proofs.Lists.{cases}
 use Rattle.error.specs.Observed.{is_whole_example, before_cursor, observed_of}
 use Rattle.report.specs.Part.{part_observed, part_words}
 use Rattle.report.specs.declared.Part.{Part}
 use Rattle.report.specs.declared.Part.TheVariants.{Action, Reduce}
+use Rattle.laws.proofs.Bools.{and-true}
 
 module _ (x : List ℕ) where
   pub whole_short : length x < 3 → false ≡ is_whole_example x

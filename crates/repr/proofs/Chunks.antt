@@ -9,9 +9,9 @@ use denote.Ref.{Bor}
 use denote.Param.Members.{Mut}
 use Rattle.repr.specs.Meaning.{Symbol}
 use Rattle.repr.specs.Listed.{symbol_of_kind, listed, symbol_is_fit, list_is_fit}
-use Rattle.repr.proofs.Listed.{and_left}
 use Rattle.repr.proofs.Parts.{length-listed}
 use Rattle.repr.proofs.Joined.{listed-append, even_parts}
+use Rattle.laws.proofs.Bools.{and_left}
 
 -- two words and the rest
 

@@ -11,8 +11,9 @@ use lib.Seq.{drop-cons, take_all, length-take-le}
 use Rattle.repr.specs.Meaning.{Symbol}
 use Rattle.repr.specs.Listed.{symbol_of_kind, listed, symbol_is_fit, list_is_fit}
 use Rattle.repr.proofs.Lists.{cases, clash}
-use Rattle.repr.proofs.Listed.{drop-last, and_left, and_right}
+use Rattle.repr.proofs.Listed.{drop-last}
 use Rattle.repr.proofs.Parts.{length-listed}
+use Rattle.laws.proofs.Bools.{and_left, and_right}
 
 pub listed-append : (xs ys : List ℕ) → length xs % 2 ≡ 0 → listed (xs ++ ys) ≡ listed xs ++ listed ys
 unfolding listed

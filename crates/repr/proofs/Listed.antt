@@ -10,6 +10,7 @@ use lib.Seq.{drop-cons}
 use borrow.Author.Tests.{ltb-true, lt-ltb}
 use lib.Dec.{ltb}
 use Rattle.repr.specs.Listed.{symbol_of_kind, listed, symbol_is_fit, list_is_fit}
+use Rattle.laws.proofs.Bools.{and_left, and_right}
 
 -- two words from a place on
 pub drop_two : (ws : List ℕ) (at : ℕ) → at + 1 < length ws → drop at ws ≡ get_or ws at 0 ∷ get_or ws (at + 1) 0 ∷ drop (at + 2) ws
@@ -74,14 +75,6 @@ unfolding symbol_is_fit
 symbol_wider n t n' t' zero x hn ht e = let h = ltb-true x n e in lt-ltb x n' (omega arith)
 symbol_wider n t n' t' (suc zero) x hn ht e = let h = ltb-true x t e in lt-ltb x t' (omega arith)
 symbol_wider n t n' t' (suc (suc k)) x hn ht e = e
-
-pub and_left : (a b : Bool) → a && b ≡ true → a ≡ true
-and_left true b e = refl
-and_left false b e = e
-
-pub and_right : (a b : Bool) → a && b ≡ true → b ≡ true
-and_right true b e = e
-and_right false b e = let z : ◌≡◌ {A = ℕ} 0 1 = cc in absurd (omega arith)
 
 -- a list in range from a place on: whole symbols, and the rest in range
 pub fits_head : (n t : ℕ) (ws : List ℕ) (at : ℕ) → at < length ws → list_is_fit n t (drop at ws) ≡ true

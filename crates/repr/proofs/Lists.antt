@@ -3,12 +3,13 @@
 use mathlib.Core.Path.{◌≡◌, refl, sym, ap, ◌∙◌}
 use mathlib.Core.Bool.{Bool, true, false, ◌&&◌, ◌||◌, not, true≢false, and-false}
 use mathlib.Core.List.{List, [], ◌∷◌, ◌++◌, map, append_assoc}
-use Prim.Native.Nat.{ℕ, zero, suc, ◌+◌, ◌≤◌, ◌<◌}
+use Prim.Native.Nat.{ℕ, zero, suc, ◌+◌, ◌≤◌, ◌<◌, ◌-◌}
 use native.Mathlib.Omega.{arith}
 use lib.ListN.{length, get_or}
 use lib.Dec.{eqb, ltb}
 use borrow.Author.Tests.{eqb-true, eqb-false, eq-eqb, ne_eqb, ltb-true, ltb-false, lt-ltb, le-ltb}
 use Rattle.repr.specs.Lists.{up_from, below, mem, occurrences, keep, joined}
+use native.Mathlib.Numerals.{add-one}
 
 -- a test is true or false, with its equation
 pub cases {ℓ} : {P : Type ℓ} (b : Bool) → (b ≡ true → P) → (b ≡ false → P) → P
@@ -237,3 +238,19 @@ module _ {ℓ κ} {A : Type ℓ} {B : Type κ} where
       joined_cons f x (xs ++ ys) ∙ ap (λ (l : List B). f x ++ l) (joined_append f xs ys)
       ∙ sym (append_assoc (f x) (joined f xs) (joined f ys))
       ∙ ap (λ (l : List B). l ++ joined f ys) (sym (joined_cons f x xs))
+
+-- a range begun at p
+
+pub up_from_more : (p n : ℕ) → p < n → up_from p (n - p) ≡ p ∷ up_from (p + 1) (n - (p + 1))
+unfolding up_from
+up_from_more p n h = let z : n - p ≡ suc (n - (p + 1)) = omega arith in rw (z, add-one p) refl
+
+pub up_from_end : (p n : ℕ) → n ≤ p → up_from p (n - p) ≡ []
+unfolding up_from
+up_from_end p n h = let z : n - p ≡ 0 = omega arith in rw z refl
+
+pub joined_members : (f g : ℕ → List ℕ) (xs : List ℕ) → ((x : ℕ) → mem x xs ≡ true → f x ≡ g x) → joined f xs ≡ joined g xs
+joined_members f g [] h = joined_nil f ∙ sym (joined_nil g)
+joined_members f g (x ∷ xs) h =
+    let rest = joined_members f g xs (λ y m. h y (mem-cons_there y x xs m)) in
+    joined_cons f x xs ∙ rw (h x (mem-cons_here x xs), rest) (sym (joined_cons g x xs))

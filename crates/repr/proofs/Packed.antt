@@ -5,7 +5,8 @@ use Prim.Native.Nat.{ℕ, ◌+◌, ◌-◌, ◌*◌, ◌<◌}
 use native.Mathlib.Omega.{arith}
 use lib.ListN.{length, get_or, take, drop, length-take, length-drop}
 use Rattle.repr.specs.Sizes.{production_place}
-use Rattle.repr.specs.Packed.{symbol_words, Packed}
+use Rattle.repr.specs.Packed.{symbol_words, Packed, production_in, productions_in}
+use Rattle.repr.proofs.Lists.{length-map-below}
 
 -- the part of the words that the code hands on
 pub words_part : (g : List ℕ) (p k from past : ℕ) → k ≡ get_or g (production_place p + 1) 0 → from ≡ production_place p + 4 → past ≡ from + 2 * k → take (past - from) (drop from g) ≡ symbol_words g p
@@ -20,3 +21,7 @@ words_long g n p P h =
     let l = P.long in
     let f = P.few in
     simp (length-take, length-drop) (omega arith)
+
+pub productions_long : (g : List ℕ) (n : ℕ) → length (productions_in g n) ≡ n
+unfolding productions_in
+productions_long g n = length-map-below (production_in g) n

@@ -8,12 +8,13 @@ use lib.ListN.{length, get_or, take, drop}
 use lib.Seq.{drop-nil, take-nil, get_or-take, get_or-drop}
 use Rattle.repr.specs.Sizes.{production_place}
 use Rattle.repr.specs.Meaning.{Symbol}
-use Rattle.repr.specs.Listed.{symbol_of_kind, listed, list_is_fit}
+use Rattle.repr.specs.Listed.{symbol_of_kind, listed, list_is_fit, symbol_is_fit}
 use Rattle.repr.specs.Packed.{symbol_words, Packed}
 use Rattle.repr.proofs.Packed.{words_long}
 use Rattle.repr.proofs.Listed.{listed-step, fits_head}
+use Rattle.laws.proofs.Bools.{and-true}
 
-two_more : (j : ℕ) → 2 * suc j ≡ suc (suc (2 * j))
+pub two_more : (j : ℕ) → 2 * suc j ≡ suc (suc (2 * j))
 two_more j = omega arith
 
 -- two words a symbol
@@ -76,3 +77,12 @@ fits-drop n t zero ws e = e
 fits-drop n t (suc i) [] e = rw (two_more i)
 fits-drop n t (suc i) (k ∷ []) e = let z : ◌≡◌ {A = ℕ} 0 1 = cc in absurd (omega arith)
 fits-drop n t (suc i) (k ∷ x ∷ ws) e = rw (two_more i) (fits-drop n t i ws (fits_head n t (k ∷ x ∷ ws) 0 (omega arith) e).1.1)
+
+pub fits-take : (n t i : ℕ) (ws : List ℕ) → list_is_fit n t ws ≡ true → list_is_fit n t (take (2 * i) ws) ≡ true
+unfolding list_is_fit
+fits-take n t zero ws e = refl
+fits-take n t (suc i) [] e = rw (two_more i)
+fits-take n t (suc i) (k ∷ []) e = let z : ◌≡◌ {A = ℕ} 0 1 = cc in absurd (omega arith)
+fits-take n t (suc i) (k ∷ x ∷ ws) e =
+    let r = and-true (symbol_is_fit n t k x) (list_is_fit n t ws) e in
+    rw (two_more i) (rw r.0 (fits-take n t i ws r.1))

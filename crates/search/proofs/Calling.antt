@@ -23,6 +23,7 @@ use Rattle.view.specs.Trial.{trial_words}
 use Rattle.search.specs.declared.Searched.TheVariants.{Hit, Out, Over}
 use Rattle.search.specs.Given.{Begun, Tried}
 use Rattle.search.specs.Found.{searched, searched_of, later_than}
+use Rattle.enumerator.proofs.Following.{after_in}
 
 -- no edge, or a trial
 
@@ -99,15 +100,6 @@ found_in_lem t (suc l) c n p (q ∷ ts) e = by (found_in_lem t l (suc c) n p ts)
         let z : p ≡ q = cc in
         (Memᴰ.head z, ap t z ∙ h)
     by ih false h = let r = ih (sym (search_on t l c q ts h) ∙ e) in (Memᴰ.tail r.0, r.1)
-
-after_in : (q p : Path) (ts : List Path) → Memᴰ p (after q ts) → Memᴰ p ts
-unfolding after
-after_in q p [] m = m
-after_in q p (x ∷ xs) m = by (after_in q p xs) (same_words q x) refl
-  where
-    by : (Memᴰ p (after q xs) → Memᴰ p xs) → (b : Bool) → same_words q x ≡ b → Memᴰ p (x ∷ xs)
-    by ih true e = Memᴰ.tail (subst (Memᴰ p) (after_here q x xs e) m)
-    by ih false e = Memᴰ.tail (ih (subst (Memᴰ p) (after-later q x xs e) m))
 
 later_in : (q p : Path) (ts : List Path) → Memᴰ p (later_than q ts) → Memᴰ p ts
 unfolding later_than

@@ -1,7 +1,7 @@
 -- The test of two lists of words decides equality. Assumes nothing.
 use mathlib.Core.Path.{◌≡◌, refl, sym, ap, ◌∙◌}
 use mathlib.Core.Bool.{Bool, true, false, ◌&&◌, true≢false}
-use mathlib.Core.List.{List, [], ◌∷◌}
+use mathlib.Core.List.{List, [], ◌∷◌, ◌++◌}
 use Prim.Native.Nat.{ℕ}
 use lib.Dec.{eqb}
 use borrow.Author.Tests.{eqb-true, eq-eqb}
@@ -32,3 +32,16 @@ ne_same_words p q ne = go (same_words p q) refl
     go : (b : Bool) → same_words p q ≡ b → b ≡ false
     go true e = absurd (ne (same_words_eq p q e))
     go false e = refl
+
+-- the same test as std's, element by element
+pub same_pointwise : (p q : List ℕ) → pointwise eqb p q ≡ same_words p q
+unfolding same_words
+same_pointwise [] [] = refl
+same_pointwise [] (y ∷ ys) = refl
+same_pointwise (x ∷ xs) [] = refl
+same_pointwise (x ∷ xs) (y ∷ ys) = ap (λ (b : Bool). eqb x y && b) (same_pointwise xs ys)
+
+pub same_behind : (p xs ys : List ℕ) → same_words (p ++ xs) (p ++ ys) ≡ same_words xs ys
+unfolding same_words
+same_behind [] xs ys = refl
+same_behind (x ∷ p) xs ys = rw (eq-eqb x x refl) (same_behind p xs ys)

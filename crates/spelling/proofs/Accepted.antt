@@ -17,7 +17,7 @@ use Rattle.table.specs.Checked.{Accepted}
 use Rattle.table.specs.Words.{word_at, records, nonterminals, terminals, states, productions, state_area, production_area, loose, loose_records, production_records, against}
 use Rattle.table.specs.Decoded.{production_chain, symbol_chain}
 use Rattle.table.specs.Refusals.{row1, row2, row3, row4, row5, row6, row7, row8, used, is_nonterminal, is_state, is_production, as_symbol, as_item, as_edge, offends, check_of}
-use Rattle.table.proofs.Chains.{and-true, chain-once}
+use Rattle.table.proofs.Chains.{chain-once}
 use Rattle.table.proofs.Exact.{accepted_exact}
 use Rattle.table.specs.Quads.{no_quad}
 use Rattle.spelling.specs.Spelled.{kind_of, number_of, symbol_quad, item_quad, edge_quad, states_at, productions_at, records_of, owns, nonterminal_quad, state_quad, production_quad, quads, spell}
@@ -25,15 +25,9 @@ use Rattle.spelling.proofs.Places.{begins, nonterminal_at, state_at_lem, product
 use Rattle.spelling.proofs.Chains.{symbol_chain_lem}
 use Rattle.spelling.proofs.Meaning.{no_symbol, no_item, no_edge, chain-owns, fits-owned}
 use Rattle.spelling.proofs.Heres.{head-good, owned_good, Here, symbol_here, item_here, edge_here, next-good}
+use Rattle.laws.proofs.Bools.{and-true, neither, and_when}
 
 -- tests put together
-
-pub or-none : (a b : Bool) → a ≡ false → b ≡ false → a || b ≡ false
-or-none a b e f = rw (e, f)
-
-pub and_when : (a b : Bool) → (a ≡ true → b ≡ false) → a && b ≡ false
-and_when true b h = h refl
-and_when false b h = refl
 
 or-which {ℓ} : {P : Type ℓ} (a b : Bool) → (a ≡ true → P) → (b ≡ true → P) → a || b ≡ true → P
 or-which true b f g e = f refl
@@ -125,7 +119,7 @@ module _ (T : Table) (F : TableFits T) where
       let i = items_within T s h in
       let e = edges_within T s h in
       rw (spell_next T (states_at T + s) (state_quad T s) q, spell_one T (states_at T + s) (state_quad T s) q)
-      (or-none _ _
+      (neither _ _
       (head-good T (states_at T + s) _ (state_at T s).items (omega (arith, i.after)) i.after i.before)
       (head-good T (states_at T + s) _ (state_at T s).edges (omega (arith, e.after)) e.after e.before))
 
@@ -137,16 +131,16 @@ module _ (T : Table) (F : TableFits T) where
       let q = production_at_lem T p h in
       let i = symbols-within T p h in
       rw (spell_next T (productions_at T + p) (production_quad T p) q, spell_one T (productions_at T + p) (production_quad T p) q)
-      (or-none _ _
+      (neither _ _
       (owned_good T (production_at T p).nonterminal (suc p) (productions_at T + p) h (omega arith))
       (head-good T (productions_at T + p) _ (production_at T p).symbols (omega (arith, i.after)) i.after i.before))
 
   none3 : (r : ℕ) → row3 (spell T) r ≡ false
   unfolding row3
   none3 r =
-      or-none _ _ (and_when (is_nonterminal (spell T) r) _ (λ e. let w = is_nonterminal_lem T r e in rw w.2 (nonterminal_index w.0 w.1)))
-      (or-none _ _ (and_when (is_state (spell T) r) _ (λ e. let w = is_state_lem T r e in rw w.2 (state_index w.0 w.1)))
-      (or-none _ _ (and_when (is_production (spell T) r) _ (λ e. let w = is_production_lem T r e in rw w.2 (production_index w.0 w.1)))
+      neither _ _ (and_when (is_nonterminal (spell T) r) _ (λ e. let w = is_nonterminal_lem T r e in rw w.2 (nonterminal_index w.0 w.1)))
+      (neither _ _ (and_when (is_state (spell T) r) _ (λ e. let w = is_state_lem T r e in rw w.2 (state_index w.0 w.1)))
+      (neither _ _ (and_when (is_production (spell T) r) _ (λ e. let w = is_production_lem T r e in rw w.2 (production_index w.0 w.1)))
       (and_when (as_symbol (spell T) r || (as_item (spell T) r || as_edge (spell T) r)) _
       (or-which (as_symbol (spell T) r) (as_item (spell T) r || as_edge (spell T) r)
       (λ e. let w = symbol_here T r e in next-good T r symbol_quad no_symbol (production_at T w.0).symbols (λ n x. refl) w.2)
@@ -216,14 +210,14 @@ module _ (T : Table) (F : TableFits T) where
   none7 : (r : ℕ) → row7 (spell T) r ≡ false
   unfolding row7
   none7 r =
-      or-none _ _
+      neither _ _
       (and_when (as_item (spell T) r) _
       (λ e.
       let w = item_here T r e in
       let H = w.2 in
       let I = item_fits w.0 r w.1 H in
       rw (spell-productions T, spell_one T r _ H.quad, spell_two T r _ H.quad, short (get_or (state_at T w.0).items H.index no_item).production I.production)
-      (or-none _ _ (lt-leb _ _ I.production) (le-ltb _ _ I.index))))
+      (neither _ _ (lt-leb _ _ I.production) (le-ltb _ _ I.index))))
       (and_when (as_edge (spell T) r) _
       (λ e.
       let w = edge_here T r e in
@@ -237,18 +231,18 @@ module _ (T : Table) (F : TableFits T) where
   none8 : (r : ℕ) → row8 (spell T) r ≡ false
   unfolding row8 nonterminal_quad state_quad
   none8 r =
-      or-none _ _
+      neither _ _
       (and_when (is_nonterminal (spell T) r) _
       (λ e.
       let w = is_nonterminal_lem T r e in
       let q : get_or (quads T) r no_quad ≡ nonterminal_quad T w.0 = ap (λ (k : ℕ). get_or (quads T) k no_quad) w.2 ∙ nonterminal_at T w.0 w.1 in
-      or-none _ _ (unused r 1 (spell_one T r _ q)) (or-none _ _ (unused r 2 (spell_two T r _ q)) (unused r 3 (spell_three T r _ q)))))
-      (or-none _ _
+      neither _ _ (unused r 1 (spell_one T r _ q)) (neither _ _ (unused r 2 (spell_two T r _ q)) (unused r 3 (spell_three T r _ q)))))
+      (neither _ _
       (and_when (is_state (spell T) r) _
       (λ e.
       let w = is_state_lem T r e in
       let q : get_or (quads T) r no_quad ≡ state_quad T w.0 = ap (λ (k : ℕ). get_or (quads T) k no_quad) w.2 ∙ state_at_lem T w.0 w.1 in
-      or-none _ _ (unused r 2 (spell_two T r _ q)) (unused r 3 (spell_three T r _ q))))
+      neither _ _ (unused r 2 (spell_two T r _ q)) (unused r 3 (spell_three T r _ q))))
       (and_when (as_symbol (spell T) r || as_item (spell T) r) _
       (or-which (as_symbol (spell T) r) (as_item (spell T) r)
       (λ e. unused r 3 (spell_three T r _ (symbol_here T r e).2.quad))
@@ -277,7 +271,7 @@ module _ (T : Table) (F : TableFits T) where
         let l = spell-length T in
         let b = begins T in
         let m : length (spell T) % 4 ≡ 0 = omega arith in
-        or-none _ _ (ne_eqb (length (spell T)) 0 (λ z. omega arith)) (or-none (not (eqb (length (spell T) % 4) 0)) _ (rw m) (le-ltb 32768 (length (spell T)) (omega arith)))
+        neither _ _ (ne_eqb (length (spell T)) 0 (λ z. omega arith)) (neither (not (eqb (length (spell T) % 4) 0)) _ (rw m) (le-ltb 32768 (length (spell T)) (omega arith)))
 
     counts_good : row2 (spell T) ≡ false
     unfolding row2
@@ -289,12 +283,12 @@ module _ (T : Table) (F : TableFits T) where
         let p = spell-productions T in
         let l = spell-loose T in
         let z = spell-records T in
-        or-none _ _ (ne_eqb (nonterminals (spell T)) 0 (λ q. omega arith))
-        (or-none _ _ (le-ltb 32 (nonterminals (spell T)) (omega arith))
-        (or-none _ _ (le-ltb 63 (terminals (spell T)) (omega arith))
-        (or-none _ _ (ne_eqb (states (spell T)) 0 (λ q. omega arith))
-        (or-none _ _ (le-ltb 128 (states (spell T)) (omega arith))
-        (or-none _ _ (le-ltb 128 (productions (spell T)) (omega arith)) (le-ltb (records (spell T)) (loose (spell T)) (omega arith)))))))
+        neither _ _ (ne_eqb (nonterminals (spell T)) 0 (λ q. omega arith))
+        (neither _ _ (le-ltb 32 (nonterminals (spell T)) (omega arith))
+        (neither _ _ (le-ltb 63 (terminals (spell T)) (omega arith))
+        (neither _ _ (ne_eqb (states (spell T)) 0 (λ q. omega arith))
+        (neither _ _ (le-ltb 128 (states (spell T)) (omega arith))
+        (neither _ _ (le-ltb 128 (productions (spell T)) (omega arith)) (le-ltb (records (spell T)) (loose (spell T)) (omega arith)))))))
 
     pub fits_accepted : check_of (spell T) ≡ Accepted
     fits_accepted = (accepted_exact (spell T)).1 (record { words = words_good; counts = counts_good; records = λ n r h l i. no_row n r h l })

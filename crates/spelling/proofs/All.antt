@@ -43,10 +43,6 @@ module _ (t g : List ℕ) (first past k o n begin : ℕ) (S : Source t first pas
   pub source-done : (g' : List ℕ) (r : ℕ) → (r ≡ begin + size_of (chains_of t first past k)) × Grown (meaning t) g g' begin r → (r ≡ o + n) × Grown (meaning t) g g' o r
   source-done g' r p = (omega (arith, p.0, S.size), rw eb at p.1)
 
--- room is kept, by the length
-pub room_long : (T : Table) (g g' : List ℕ) → length g' ≡ length g → Room T g → Room T g'
-room_long T g g' e R = record { few = R.few; long = omega (arith, R.long) }
-
 pub room-first : (T : Table) (g : List ℕ) → Room T g → 0 * 4 + 3 < length g
 room-first T g R = let b = begins T in omega (arith, R.long)
 

@@ -15,12 +15,13 @@ use Rattle.repr.proofs.Tests.{some?-below_witness, first?_at}
 use Rattle.table.specs.Words.{word_at, productions, states, loose_records, production_records, against}
 use Rattle.table.specs.Decoded.{symbol_chain, item_chain, edge_chain}
 use Rattle.table.specs.Refusals.{as_symbol, as_item, as_edge}
-use Rattle.table.proofs.Chains.{and-true, names_good, against-zero, against_good}
+use Rattle.table.proofs.Chains.{names_good, against-zero, against_good}
 use Rattle.table.specs.Quads.{Quad, no_quad}
 use Rattle.spelling.specs.Spelled.{head_of, place_of, symbol_quad, item_quad, edge_quad, symbol_lists, item_lists, edge_lists, productions_at, symbols_at, items_place, edges_at, records_of, owns, record_or, next_owned_from, quads, spell}
 use Rattle.spelling.proofs.Places.{begins, Within, symbols_stand, items_stand, edges_stand, symbols-within, items_within, edges_within, spell_next, spell-states, spell-productions, spell-production_area, spell-loose, spell-records}
 use Rattle.spelling.proofs.Chains.{laid_at, symbol_chain_lem, item_chain_lem, edge_chain_lem}
 use Rattle.spelling.proofs.Meaning.{no_symbol, no_item, no_edge}
+use Rattle.laws.proofs.Bools.{and-true}
 
 -- indexes
 

@@ -25,6 +25,7 @@ use Rattle.spelling.specs.Grown.{Stands, records_from, same_quad, LooseIndex, ch
 use Rattle.spelling.proofs.Places.{regions, symbol_list, item_list, edge_list}
 use Rattle.spelling.proofs.Copied.{same_states, same_productions, same_loose}
 use Rattle.spelling.proofs.Reading.{as_symbol_lem, as_item_lem, as_edge_lem}
+use Rattle.laws.proofs.Bools.{when}
 
 -- records of which each is written as the table has it
 
@@ -95,7 +96,7 @@ kind_back n m zero x e = refl
 kind_back n m (suc zero) x e = refl
 kind_back n m (suc (suc k)) x e = let z : ◌≡◌ {A = ℕ} 0 1 = cc in absurd (omega arith)
 
-number-back : (k x : ℕ) → number_of (symbol_of_kind k x) ≡ x
+pub number-back : (k x : ℕ) → number_of (symbol_of_kind k x) ≡ x
 unfolding number_of symbol_of_kind
 number-back zero x = refl
 number-back (suc k) x = refl
@@ -108,10 +109,6 @@ pub record Source (t : List ℕ) (first past k o n : ℕ) : Type 0 where
 
 quad_is : (n a b c x y z : ℕ) → a ≡ x → b ≡ y → c ≡ z → ◌≡◌ {A = Quad} (record { next = n; one = a; two = b; three = c }) (record { next = n; one = x; two = y; three = z })
 quad_is n a b c x y z ea eb ec = rw (ea, eb, ec)
-
-when : (a b : Bool) → a && b ≡ false → a ≡ true → b ≡ false
-when true b e f = e
-when false b e f = clash false f refl
 
 module _ (t : List ℕ) (e : check_of t ≡ Accepted) where
   spare : (r : ℕ) → r < records t → (as_symbol t r || as_item t r) ≡ true → word_at t r 3 ≡ 0
@@ -238,3 +235,9 @@ module _ (t : List ℕ) (e : check_of t ≡ Accepted) where
         stands = rw (region_same t edge_quad (edge_at t) (states_at T) (productions_at T) 1 (edge_lists T) (omega arith) (omega arith) is kept (edges_at T)) at (regions T).edges;
         size = region_size t edge_quad (edge_at t) (states_at T) (productions_at T) 1 (edge_lists T) (omega arith) (omega arith) is kept;
       }
+
+pub kind-back : (k x : ℕ) → k < 2 → kind_of (symbol_of_kind k x) ≡ k
+unfolding kind_of symbol_of_kind
+kind-back zero x h = refl
+kind-back (suc zero) x h = refl
+kind-back (suc (suc k)) x h = absurd (omega arith)

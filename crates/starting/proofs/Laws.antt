@@ -16,7 +16,6 @@ use Rattle.repr.specs.Lists.{up_from, below, keep}
 use Rattle.repr.specs.Meaning.{Table}
 use Rattle.repr.proofs.Lists.{cases}
 use Rattle.lookahead.specs.Tokens.{single, with}
-use Rattle.lookahead.proofs.Growing.{get_d_none}
 use Rattle.lookahead.proofs.Laws.{with_yes, single_lt}
 use Rattle.lookahead.proofs.Sets.{union-zero-left}
 use Rattle.build.specs.States.{places, closure, start_state}
@@ -30,6 +29,7 @@ use Rattle.kept_states.specs.Made.{first, Holds}
 use Rattle.kept_states.proofs.Holds.{holds_more, length-packed}
 use Rattle.finding.specs.Search.{KernelIn, Stored}
 use Rattle.starting.specs.Start.{Counted, Started}
+use Rattle.laws.proofs.Lists.{zero_at}
 
 -- one item packed
 
@@ -60,7 +60,7 @@ module _ (n x v : ℕ) (h : x < n) (z : v ≡ 0 → ⊥) where
   one_at = get_or-set_same (replicate n 0) x v 0 (rw (length-replicate {A = ℕ} n 0) h)
 
   one_other : (i : ℕ) → (i ≡ x → ⊥) → get_or one i 0 ≡ 0
-  one_other i q = get_or-set_other (replicate n 0) x i v 0 q ∙ get_d_none n i
+  one_other i q = get_or-set_other (replicate n 0) x i v 0 q ∙ zero_at n i
 
   packed_one : packed one ≡ record { place = x; set = v } ∷ []
   unfolding packed below

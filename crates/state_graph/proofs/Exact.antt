@@ -17,16 +17,7 @@ use Rattle.repr.proofs.Tests.{some?-nil, some?-yes, some?_no, some?-cons}
 use Rattle.repr.proofs.SameSymbol.{same_equal, same_refl}
 use Rattle.lookahead.proofs.Members.{kept_ascend}
 use Rattle.state_graph.specs.Walk.{Path, stay, go, Ascending, leads, predecessors, walked_back, traced_back}
-
--- two tests that are true together are equal
-pub both_ways : (a b : Bool) → (a ≡ true → b ≡ true) → (b ≡ true → a ≡ true) → a ≡ b
-both_ways true b f g = sym (f refl)
-both_ways false true f g = g refl
-both_ways false false f g = refl
-
-pub and_both : (a b : Bool) → (a && b) ≡ true → (a ≡ true) × (b ≡ true)
-and_both true b e = (refl, e)
-and_both false b e = absurd (true≢false (sym e))
+use Rattle.laws.proofs.Bools.{agree as both_ways, and-true}
 
 -- some element passes: with the element, which is in the list
 module _ {ℓ} {A : Type ℓ} where
@@ -112,7 +103,7 @@ module _ (T : Table) where
   unfolding leads
   edge_leads x ss p h =
       let r = some?_member_elim (λ (e : Edge). is_same_symbol x e.symbol && mem e.target ss) (state_at T p).edges h in
-      let b = and_both (is_same_symbol x r.0.symbol) (mem r.0.target ss) r.2 in
+      let b = and-true (is_same_symbol x r.0.symbol) (mem r.0.target ss) r.2 in
       (r.0, r.1, same_equal x r.0.symbol b.0, b.1)
 
   pub walk-nil : (ss : List ℕ) → walked_back T ss [] ≡ ss

@@ -22,6 +22,7 @@ use Rattle.kept_states.specs.Kept.{state_in}
 use Rattle.taking.specs.Taking.{edge_of, edges_in}
 use Rattle.collecting.specs.Rows.{row_in}
 use Rattle.state_records.specs.Rows.{BeginsOf, item_of, ItemsIn, EdgesIn}
+use Rattle.spelling.proofs.Sources.{kind-back, number-back}
 
 -- lists one behind the other
 
@@ -110,18 +111,6 @@ pub target_small : (w t : ℕ) (X : Symbol) → record { symbol = X; target = t 
 unfolding edge_of
 target_small w t X e = omega (arith, ap (λ (d : Edge). d.target) e)
 
--- a symbol by its two words
-kind_is : (k x : ℕ) → k < 2 → kind_of (symbol_of_kind k x) ≡ k
-unfolding kind_of symbol_of_kind
-kind_is zero x h = refl
-kind_is (suc zero) x h = refl
-kind_is (suc (suc k)) x h = absurd (omega arith)
-
-number_is : (k x : ℕ) → number_of (symbol_of_kind k x) ≡ x
-unfolding number_of symbol_of_kind
-number_is zero x = refl
-number_is (suc k) x = refl
-
 abbrev pub no_edge : Edge
 no_edge = record { symbol = nonterminal 0; target = 0 }
 
@@ -136,7 +125,7 @@ module _ (E : List ℕ) (from past : ℕ) where
 
   pub edge_quad_lem : (m w r k x t : ℕ) (X : Symbol) (d : Edge) → from ≤ m → m < past → w ≡ get_or E m 0 → record { symbol = X; target = t } ≡ edge_of w → symbol_of_kind k x ≡ X → k < 2
       → edge_quad r (get_or (edges_in E from (past - from)) (m - from) d) ≡ record { next = r; one = k; two = x; three = t }
-  edge_quad_lem m w r k x t X d low less e q z h = ap (edge_quad r) (edge_at_lem m w d low less e ∙ sym q) ∙ rw (← z, kind_is k x h, number_is k x) refl
+  edge_quad_lem m w r k x t X d low less e q z h = ap (edge_quad r) (edge_at_lem m w d low less e ∙ sym q) ∙ rw (← z, kind-back k x h, number-back k x) refl
 
 -- the lists of all states
 

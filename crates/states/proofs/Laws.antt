@@ -14,12 +14,12 @@ use Rattle.repr.proofs.Lists.{cases}
 use Rattle.table.specs.Checked.{Checked, Accepted, Refused as NotAccepted}
 use Rattle.table.specs.Decoded.{meaning}
 use Rattle.table.specs.Refusals.{check_of}
-use Rattle.table.proofs.Chains.{and-true}
 use Rattle.build.specs.Outcome.{Outcome, refused as stopped, full, outcome}
 use Rattle.build.proofs.Refusals.{outcome-full}
 use Rattle.builder.specs.Outcome.{Left, build_scratch, start_is_fit, conflict_count, built_of, built_in, build_of}
 use Rattle.builder.specs.declared.Built.{Built}
 use Rattle.builder.proofs.Written.{build-room}
+use Rattle.laws.proofs.Bools.{and-true}
 
 unfoldable Few : ℕ → ℕ → Reply Built → Type 0
 Few room words (answered b) = (b.records ≤ min room record_limit) × (5 * b.conflicts ≤ words)

@@ -175,7 +175,7 @@ listed_snoc n ws k x l = listed-append ws (k ∷ x ∷ []) (omega arith)
 pub fits_snoc : (n t m : ℕ) (ws : List ℕ) (k x : ℕ) → length ws ≡ 2 * m → list_is_fit n t ws ≡ true → symbol_is_fit n t k x ≡ true → list_is_fit n t (ws ++ k ∷ x ∷ []) ≡ true
 fits_snoc n t m ws k x l e f = fits-append n t ws (k ∷ x ∷ []) (omega arith) ∙ rw (e, fits_one n t k x, f)
 
-put_two : (g : List ℕ) (a j k x : ℕ) → a + j + 1 < length g → take (j + 2) (drop a (set (set g (a + j) k) (a + j + 1) x)) ≡ take j (drop a g) ++ k ∷ x ∷ []
+pub put_two : (g : List ℕ) (a j k x : ℕ) → a + j + 1 < length g → take (j + 2) (drop a (set (set g (a + j) k) (a + j + 1) x)) ≡ take j (drop a g) ++ k ∷ x ∷ []
 put_two g a j k x h =
     let e : a + j + 1 ≡ a + suc j = omega arith in
     let d = length-drop a g in
@@ -293,7 +293,7 @@ module _ (t : List ℕ) (e : check_of t ≡ Accepted) where
 
 -- number of symbols and span
 
-made : (a b : ℕ) (s u : List Symbol) (c d f g : ℕ) → a ≡ b → s ≡ u → c ≡ d → f ≡ g
+pub made : (a b : ℕ) (s u : List Symbol) (c d f g : ℕ) → a ≡ b → s ≡ u → c ≡ d → f ≡ g
     → ◌≡◌ {A = Production} (record { nonterminal = a; symbols = s; start = c; end = f }) (record { nonterminal = b; symbols = u; start = d; end = g })
 made a b s u c d f g p q r o = rw (p, q, r, o)
 

@@ -32,7 +32,7 @@ lowest_no : (off : ℕ → Bool) (n : ℕ) (ns : List ℕ) → off n ≡ false �
 unfolding lowest
 lowest_no off n ns e = ap or_zero (first?_no off n ns e)
 
-lowest_nil : (off : ℕ → Bool) → lowest off [] ≡ 0
+pub lowest_nil : (off : ℕ → Bool) → lowest off [] ≡ 0
 unfolding lowest or_zero
 lowest_nil off = ap or_zero (first?-nil off)
 

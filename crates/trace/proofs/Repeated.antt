@@ -13,8 +13,9 @@ use Rattle.trace.specs.Shifting.{distinct_from, distinct, shifting}
 use Rattle.trace.specs.Shift.{epsilon_item, epsilon}
 use Rattle.trace.specs.Reduce.{reduce_state_item, item_of_reduce, state_of_reduce}
 use Rattle.trace.specs.Met.{ItemMet}
-use Rattle.trace.proofs.Once.{item_equal, add_there, add-has}
+use Rattle.trace.proofs.Once.{add_there, add-has}
 use Rattle.trace.proofs.Grows.{Grows, Adds, grows_seen, grows_some, turn_nil, turn_cons, turn_grows, epsilon_cannot, epsilon_past, epsilon_beginning, epsilon-zero, epsilon-entered, epsilon_new, epsilon_item_grows, epsilon_grows, reduce_cannot, reduce_nullable, reduce_ends, reduce_item_is, reduce_zero, reduce_entered, reduce_new, reduce_item_grows, reduce_state_item_grows, reduce_grows}
+use Rattle.trace_graph.proofs.Labels.{item_equal}
 
 -- the clauses of `distinct_from`
 

@@ -15,7 +15,7 @@ use Rattle.trace_graph.specs.Index.{bucket_number, bucket_limit, index_room}
 use Rattle.trace_graph.specs.Values.{edge_is, value_fits, SmallEdge, edge_read, first_edges}
 use Rattle.hash_index.specs.Chains.{chained}
 use Rattle.trace_graph.specs.Insert.{Graphed, fresh}
-use Rattle.trace_graph.proofs.Bools.{both, and_left, and_right, never}
+use Rattle.laws.proofs.Bools.{both, and_left, and_right, never}
 use Rattle.trace_graph.proofs.Labels.{edge_sym}
 use Rattle.trace_graph.proofs.Words.{edge_read_lem, fits_read, first-none, first_more, edges_first}
 use Rattle.trace_graph.proofs.Fits.{value_small}

@@ -13,7 +13,7 @@ use Rattle.trace_graph.specs.Fits.{item_is_fit, edge_is_fit}
 use Rattle.trace_graph.specs.Index.{bucket_number, in_bucket, bucket_limit}
 use Rattle.trace_graph.specs.Values.{edge_is, same_value, value_fits, edge_read, first_edges}
 use Rattle.trace_graph.specs.Insert.{Graphed}
-use Rattle.trace_graph.proofs.Bools.{never}
+use Rattle.laws.proofs.Bools.{never}
 use Rattle.trace_graph.proofs.Words.{edge_read_lem, fits_read}
 use Rattle.trace_graph.proofs.Fits.{same_value_lem, source_fits, target_fits, label_fits}
 use Rattle.trace_graph.proofs.Buckets.{same_bucket}

@@ -14,15 +14,12 @@ use Rattle.trace_graph.specs.Words.{node_of}
 use Rattle.trace_graph.specs.Fits.{item_is_fit, node_fits}
 use Rattle.trace_graph.specs.Index.{number_of_node, InRange}
 use Rattle.trace_graph.specs.Values.{node_is, same_value, node_value_fits, value_fits, SmallNode, SmallEdge}
-use Rattle.trace_graph.proofs.Bools.{and_left, and_right}
+use Rattle.laws.proofs.Bools.{and_left, and_right}
 use Rattle.trace_graph.proofs.Labels.{same_label_is, symbols_refl}
 use Rattle.trace_graph.proofs.Same.{words-symbols}
+use Rattle.repr.proofs.Packed.{productions_long}
 
 -- productions in words
-
-pub productions_long : (g : List ℕ) (m : ℕ) → length (productions_in g m) ≡ m
-unfolding productions_in
-productions_long g m = length-map-below (production_in g) m
 
 pub production-symbols : (g : List ℕ) (m p : ℕ) → p < m → (get_or (productions_in g m) p no_production).symbols ≡ listed (symbol_words g p)
 unfolding productions_in production_in

@@ -11,6 +11,7 @@ use Rattle.trace_graph.specs.Graph.{Node, at_nonterminal, at_item, TraceEdge}
 use Rattle.trace_graph.specs.Words.{node_words, edge_words, graph_words, node_of, node_at, edge_at, edges_in}
 use Rattle.trace_graph.specs.Fits.{item_is_fit, node_fits, edge_is_fit, once, graph_fits}
 use Rattle.trace_graph.specs.Index.{InRange}
+use Rattle.trace_graph.proofs.Front.{edge_words_lem}
 
 -- eight words an edge
 
@@ -20,10 +21,6 @@ words_eight (at_nonterminal n) (at_nonterminal m) i = refl
 words_eight (at_nonterminal n) (at_item b) i = refl
 words_eight (at_item a) (at_nonterminal m) i = refl
 words_eight (at_item a) (at_item b) i = refl
-
-pub length_edge : (e : TraceEdge) → length (edge_words e) ≡ 8
-unfolding edge_words
-length_edge e = words_eight e.source e.target e.label
 
 -- the edge that eight words are
 unfoldable pub edge_in : List ℕ → TraceEdge
@@ -50,12 +47,12 @@ body-word : (es : List TraceEdge) (rest : List ℕ) (k c : ℕ) (d : TraceEdge) 
     → get_or (joined edge_words es ++ rest) (k * edge_room + c) 0 ≡ get_or (edge_words (get_or es k d)) c 0
 body-word [] rest k c d h l = absurd (omega arith)
 body-word (e ∷ es) rest zero c d h l =
-    let n = length_edge e in
+    let n = edge_words_lem e in
     let z : 0 * edge_room + c ≡ c = omega arith in
     rw (joined_cons edge_words e es, append_assoc (edge_words e) (joined edge_words es) rest, z)
     (get_or-append (edge_words e) (joined edge_words es ++ rest) 0 c (omega arith))
 body-word (e ∷ es) rest (suc k) c d h l =
-    let n = length_edge e in
+    let n = edge_words_lem e in
     let z : suc k * edge_room + c ≡ length (edge_words e) + (k * edge_room + c) = omega arith in
     rw (joined_cons edge_words e es, append_assoc (edge_words e) (joined edge_words es) rest, z)
     (get_or-append-add (edge_words e) (joined edge_words es ++ rest) (k * edge_room + c) 0 ∙ body-word es rest k c d (omega arith) l)

@@ -14,7 +14,7 @@ use Rattle.trace_graph.specs.Words.{node_words, edge_words, node_of, node_at, ed
 use Rattle.trace_graph.specs.Fits.{node_fits, edge_is_fit}
 use Rattle.trace_graph.specs.Values.{node_is, edge_is, node_value_fits, value_fits, node_read, edge_read, value_words, written, first_edges}
 use Rattle.trace_graph.specs.Insert.{with_one_more}
-use Rattle.trace_graph.proofs.Bools.{and_left, and_right}
+use Rattle.laws.proofs.Bools.{and_left, and_right}
 use Rattle.trace_graph.proofs.Stores.{stored_before, stored_after, stored_at}
 
 -- what a value read says

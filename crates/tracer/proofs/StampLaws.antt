@@ -5,7 +5,6 @@ use Rattle.repr.specs.Sizes.{index_limit}
 use Rattle.repr.specs.Lists.{mem}
 use Rattle.repr.specs.Meaning.{Item, Table, TableFits, ItemFits}
 use Rattle.repr.proofs.Lists.{cases}
-use Rattle.lookahead.proofs.Growing.{get_d_none}
 use Rattle.state_graph.specs.Walk.{traced_back}
 use Rattle.trace.specs.Traced.{Trace, pair, owner_of, prefix_of}
 use Rattle.trace.specs.Shifting.{item_of}
@@ -20,6 +19,7 @@ use Rattle.bits.specs.Bits.{bit_at}
 use Rattle.tracer.specs.Held.{Held, open_bits, unset}
 use Rattle.tracer.specs.Stamps.{stamp_words, stamp_read_at, Stamped}
 use Rattle.tracer.proofs.Turns.{open_set, open_unset}
+use Rattle.laws.proofs.Lists.{zero_at}
 
 -- by the code's parity
 
@@ -33,7 +33,7 @@ stamp_odd ws c e = rw (ne_eqb (c % 2) 0 e, stamp_read_at)
 
 stamp_none : (n c : ℕ) → stamp_read_at (replicate n 0) c ≡ 0
 stamp_none n c =
-    let z = get_d_none n (c / 2) in
+    let z = zero_at n (c / 2) in
     cases (eqb (c % 2) 0)
     (λ q. stamp_even (replicate n 0) c (eqb-true (c % 2) 0 q) ∙ rw z)
     (λ q. stamp_odd (replicate n 0) c (eqb-false (c % 2) 0 q) ∙ rw z)

@@ -8,7 +8,6 @@ use Rattle.repr.proofs.Lists.{cases}
 use Rattle.table.specs.Checked.{Checked, Accepted, Refused as NotAccepted}
 use Rattle.table.specs.Decoded.{meaning}
 use Rattle.table.specs.Refusals.{check_of}
-use Rattle.table.proofs.Chains.{and-true}
 use Rattle.table.proofs.Decoding.{fits}
 use Rattle.trace_graph.specs.Graph.{TraceEdge, at_item, is_node_of}
 use Rattle.trace_graph.specs.Words.{graph_words, edges_in}
@@ -20,6 +19,7 @@ use Rattle.trace.specs.Reduce.{reduce_edges}
 use Rattle.trace.proofs.Traced.{fits-item, in_range, shift_sound, shift_steps, reduce_sound, reduce_steps}
 use Rattle.tracer.specs.Outcome.{Outcome, outcome, edges_outcome, traced_in, trace_by, shift_of, reduce_of}
 use Rattle.tracer.specs.Traced.{Traced}
+use Rattle.laws.proofs.Bools.{and-true}
 
 edges_in_lem : (graph scratch : List ℕ) (es : List TraceEdge) (n : ℕ) (g w : List ℕ) → edges_outcome graph scratch es ≡ outcome (answered n) g w
     → (length es ≤ edge_limit) × (g ≡ in_front (graph_words es) graph)

@@ -14,8 +14,9 @@ use Rattle.enumerator.proofs.Stepping.{within-top}
 use Rattle.enumerator.proofs.Counting.{counted_fewer}
 use Rattle.view.specs.Trial.{trial_words, Held}
 use Rattle.view.specs.Steps.{joined_by, used_by, CountedWalk, CountedEdges}
-use Rattle.view.proofs.Trial.{stack_once, stack_depth, stack_long, empty, under_read, stack_more, top-words, upper, upper_stack}
+use Rattle.view.proofs.Trial.{stack_once, stack_depth, stack_long, empty, under_read, top-words, upper, upper_stack}
 use Rattle.view.proofs.Steps.{used-more, used_few}
+use Rattle.enumerator.proofs.StackWords.{stack_more}
 
 -- an edge that joins a walk or leaves it, from an item or from a nonterminal
 module _ (sources : List ℕ) (e : ℕ) (us : List ℕ) {ms : List ℕ} where

@@ -22,9 +22,10 @@ use Rattle.trace_graph.proofs.Fits.{item-parts, source_fits, label_fits, value_s
 use Rattle.example.specs.Labels.{LabelFits}
 use Rattle.enumerator.specs.Lister.{owner_of_node, label_at}
 use Rattle.enumerator.specs.Stacks.{Ranged}
-use Rattle.enumerator.proofs.Edges.{edges_count, edges_at_lem}
+use Rattle.enumerator.proofs.Edges.{edges_at_lem}
 use Rattle.view.specs.View.{label_in, Labelled, EdgeRanged}
 use Rattle.view.proofs.Owner.{owner_nonterminal, owner_item}
+use Rattle.trace_graph.proofs.Front.{edges_long}
 
 -- a label's item in one word
 label_in_lem : (n p i : ℕ) → p < 128 → i ≤ 16 → label_in n (p * index_limit + i) ≡ record { nonterminal = n; production = p; index = i }
@@ -119,9 +120,9 @@ module _ {gr : List ℕ} {m : ℕ} (P : Packed gr m) {g : List ℕ} {k : ℕ} (E
 
 pub labelling_made : {ps : List Production} {g : List ℕ} → Ranged ps g → {owners codes : List ℕ} {k : ℕ} → k ≡ get_or g 0 0 → Labelling ps (edges_in g) owners codes k → Labelled ps (edges_in g) owners codes
 labelling_made {g = g} R {k = k} ek L = record {
-  few = omega (arith, edges_count g, R.few_edges);
+  few = omega (arith, edges_long g, R.few_edges);
   by_owner = L.by_owner;
   by_code = L.by_code;
-  label = λ e h. L.label e (omega (arith, edges_count g));
-  fits = λ e h. L.fits e (omega (arith, edges_count g));
+  label = λ e h. L.label e (omega (arith, edges_long g));
+  fits = λ e h. L.fits e (omega (arith, edges_long g));
 }

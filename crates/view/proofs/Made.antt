@@ -23,13 +23,14 @@ use Rattle.trace_graph.proofs.Words.{edge_read_lem, fits_read}
 use Rattle.enumerator.specs.Trials.{Ends}
 use Rattle.enumerator.specs.Machine.{below, link_of}
 use Rattle.enumerator.specs.Stacks.{Ranged}
-use Rattle.enumerator.proofs.Nodes.{same_refl}
-use Rattle.enumerator.proofs.Edges.{edges_count, edges_at_lem, few_edges, edge_fits}
+use Rattle.enumerator.proofs.Edges.{edges_at_lem, few_edges, edge_fits}
 use Rattle.enumerator.proofs.Steps.{below-hit, below_miss}
 use Rattle.enumerator.proofs.Stepping.{ends, value_nonterminal}
-use Rattle.enumerator.proofs.Holding.{small_ground}
+use Rattle.enumerator.proofs.Holding.{small_ground, nonterminal_range}
 use Rattle.view.specs.View.{view_nodes, latest_room, view_node, slot_of, source_of, Bounded, Viewed, View, EdgeRanged}
-use Rattle.view.proofs.Owner.{kind_item, range_nonterminal}
+use Rattle.view.proofs.Owner.{kind_item}
+use Rattle.trace_graph.proofs.Labels.{node_refl}
+use Rattle.trace_graph.proofs.Front.{edges_long}
 
 -- the nodes of a view
 
@@ -147,7 +148,7 @@ module _ {G : Ends} {start : Item} {sources older latest : List ℕ} {k : ℕ} (
     linked = λ e s h l t. cases (eqb e k)
         (λ q. let z = eqb-true e k q in
         let y : G.target k ≡ view_node start s = ap G.target (sym z) ∙ t in
-        let w : b ≡ s = eqb-true b s (sym (same_at s l) ∙ ap (λ (v : Node). is_same_node v (view_node start s)) y ∙ same_refl (view_node start s)) in
+        let w : b ≡ s = eqb-true b s (sym (same_at s l) ∙ ap (λ (v : Node). is_same_node v (view_node start s)) y ∙ node_refl (view_node start s)) in
         ap (λ (j : ℕ). get_or (set older k (get_or latest b 0)) j 0) z ∙ get_or-set_same older k (get_or latest b 0) 0 (omega (arith, W.tidy.by_older.long))
         ∙ ap (λ (j : ℕ). get_or latest j 0) w ∙ W.headed s l ∙ ap (λ (j : ℕ). link_of (below G (view_node start s) j)) (sym z))
         (λ q. let ne = eqb-false e k q in get_or-set_other older k e (get_or latest b 0) 0 ne ∙ W.linked e s (less e h ne) l t);
@@ -218,7 +219,7 @@ module _ {ps : List Production} {g : List ℕ} {k : ℕ} (E : EdgeRanged ps g k)
   n = E.nonterminals
 
   node_low : (v : NodeValue) → node_value_fits n ps v ≡ true → (x : Node) (m : ℕ) → node_is v ≡ x → x ≡ at_nonterminal m → m < nonterminal_limit
-  node_low v f x m e q = omega (arith, range_nonterminal n ps m (rw (e ∙ q) at (value_range n ps v f)), E.few)
+  node_low v f x m e q = omega (arith, nonterminal_range n ps m (rw (e ∙ q) at (value_range n ps v f)), E.few)
 
   module _ {v : EdgeValue} (ev : v ≡ edge_read g k) where
     value_in : value_fits n ps v ≡ true
@@ -263,9 +264,9 @@ module _ {ps : List Production} {g : List ℕ} {k : ℕ} (E : EdgeRanged ps g k)
 
 pub view_made : {ps : List Production} {g : List ℕ} → Ranged ps g → {start : Item} {sources older latest : List ℕ} {k : ℕ} → k ≡ get_or g 0 0 → Viewed (ends g) start sources older latest k → View (edges_in g) start sources older latest
 view_made {ps} {g} R {start} {sources} {older} {latest} ek W = record {
-  few = omega (arith, edges_count g, R.few_edges);
+  few = omega (arith, edges_long g, R.few_edges);
   small = small_ground (record { productions = ps; ranged = R });
-  viewed = subst (λ (j : ℕ). Viewed (ends g) start sources older latest j) (ek ∙ sym (edges_count g)) W;
+  viewed = subst (λ (j : ℕ). Viewed (ends g) start sources older latest j) (ek ∙ sym (edges_long g)) W;
 }
 
 -- a graph with its index, and one whose check passes, are in range

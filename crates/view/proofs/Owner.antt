@@ -18,6 +18,7 @@ use Rattle.trace_graph.specs.Values.{node_is, node_value_fits}
 use Rattle.trace_graph.proofs.Fits.{value_range, item-below}
 use Rattle.enumerator.specs.Lister.{owner_of_node}
 use Rattle.enumerator.proofs.Stepping.{value_nonterminal}
+use Rattle.enumerator.proofs.Holding.{nonterminal_range}
 
 pub kind_item : (v : NodeValue) → (v.kind ≡ 0 → ⊥) → node_is v ≡ at_item (record { production = v.number; index = v.index })
 unfolding node_is node_of
@@ -26,10 +27,6 @@ kind_item v ne = go v.kind refl
     go : (k : ℕ) → v.kind ≡ k → node_of v.kind v.number v.index ≡ at_item (record { production = v.number; index = v.index })
     go zero q = absurd (ne q)
     go (suc k) q = rw q
-
-pub range_nonterminal : (n : ℕ) (ps : List Production) (m : ℕ) → InRange n ps (at_nonterminal m) → m < n
-unfolding InRange
-range_nonterminal n ps m h = h
 
 range_item : (n : ℕ) (ps : List Production) (i : Item) → InRange n ps (at_item i) → item_is_fit ps i.production i.index ≡ true
 unfolding InRange
@@ -40,7 +37,7 @@ pub owner_nonterminal : (n : ℕ) (ps : List Production) (v : NodeValue) → n �
 unfolding owner_of_node
 owner_nonterminal n ps v few f z =
     let e = value_nonterminal v z in
-    let r = range_nonterminal n ps v.number (rw e at (value_range n ps v f)) in
+    let r = nonterminal_range n ps v.number (rw e at (value_range n ps v f)) in
     (sym (ap (owner_of_node ps) e), omega arith)
 
 module _ (g : List ℕ) (m : ℕ) (P : Packed g m) (n : ℕ) (v : NodeValue) (f : node_value_fits n (productions_in g m) v ≡ true) (ne : v.kind ≡ 0 → ⊥) where

@@ -11,6 +11,7 @@ use Rattle.enumerator.specs.Words.{words_of, path_in, path_room}
 use Rattle.enumerator.specs.Stacks.{Within, stack_in}
 use Rattle.enumerator.proofs.Holding.{within-reverse}
 use Rattle.view.specs.Trial.{trial_room, trial_words, Held}
+use Rattle.laws.proofs.Lists.{length_last}
 
 pub trial_long : (p : Path) → length p ≤ reduction_limit → length (trial_words p) ≡ trial_room
 unfolding trial_words
@@ -40,9 +41,6 @@ words-all p rest h = omega (arith, trial_long p h, length-append (trial_words p)
 spare : (p rest : List ℕ) (m : ℕ) → reduction_limit - length p ≡ suc m → trial_words p ++ rest ≡ length p ∷ (p ++ 0 ∷ (replicate m 0 ++ rest))
 unfolding trial_words
 spare p rest m e = ap (λ (l : List ℕ). length p ∷ l) (append_assoc p (replicate (reduction_limit - length p) 0) rest ∙ ap (λ (k : ℕ). p ++ (replicate k 0 ++ rest)) e)
-
-length_last : (p : List ℕ) (e : ℕ) → length (p ++ e ∷ []) ≡ suc (length p)
-length_last p e = omega (arith, length-append p (e ∷ []))
 
 last : (p rest : List ℕ) (e m : ℕ) → reduction_limit - length p ≡ suc m → trial_words (p ++ e ∷ []) ++ rest ≡ suc (length p) ∷ (p ++ e ∷ (replicate m 0 ++ rest))
 unfolding trial_words
@@ -206,12 +204,6 @@ module _ {ws : List ℕ} (S : Held ws) {d : ℕ} (ed : d ≡ get_or ws 0 0) (ne 
 
   pub upper_is : (st rest : List ℕ) → ws ≡ trial_words (reverse st) ++ rest → st ≡ x ∷ upper.under
   upper_is st rest q = (stack_once st S.stack rest S.rest (sym q ∙ S.words)).0 ∙ upper_stack
-
--- one edge more of the words
-pub stack_more : (ws : List ℕ) (d : ℕ) → suc d < length ws → stack_in ws (suc d) ≡ get_or ws (suc d) 0 ∷ stack_in ws d
-unfolding stack_in
-stack_more [] d h = absurd (omega arith)
-stack_more (w ∷ ws) d h = ap reverse (take-suc ws d 0 (omega arith)) ∙ reverse-append (take d ws) (get_or ws d 0 ∷ [])
 
 -- the words of no edge
 pub cleared : (ws d : List ℕ) (n : ℕ) → n ≡ trial_room → ws ≡ replicate n 0 ++ drop n d → ws ≡ trial_words [] ++ drop trial_room d

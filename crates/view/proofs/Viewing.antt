@@ -24,6 +24,7 @@ use Rattle.view.specs.Steps.{edge_in, joined_by, used_by, back_by, seek_by, next
 use Rattle.view.proofs.Trial.{stack_once}
 use Rattle.view.proofs.Steps.{back_end, back_some, back_none, seek-some, seek-none, next-first, next_item_lem, next_on, next_in}
 use Rattle.view.proofs.Made.{start_node, nonterminal_node}
+use Rattle.enumerator.proofs.Stepping.{example-last}
 
 -- an edge of the graph into a node of the view
 pub record Entered (G : Ends) (start : Item) (e : ℕ) : Type 0 where
@@ -62,11 +63,6 @@ source-example (at_nonterminal n) = ne_eqb (suc n) 0 (λ e. omega arith)
 by_option : {A : Type 0} (o : Option A) (P : Type 0) → (o ≡ none → P) → ((x : A) → o ≡ some x → P) → P
 by_option none P f g = f refl
 by_option (some x) P f g = g x refl
-
-example-last : (G : Ends) (p : List ℕ) (e : ℕ) → is_example_in G (p ++ e ∷ []) ≡ from_item (G.source e)
-example-last G [] e = refl
-example-last G (a ∷ []) e = refl
-example-last G (a ∷ b ∷ p) e = example-last G (b ∷ p) e
 
 module _ {es : List TraceEdge} {start : Item} {sources older latest : List ℕ} (W : View es start sources older latest) where
   abbrev G : Ends

@@ -377,7 +377,7 @@ quoted-dead bodied b d = absurd cc
 quoted-dead done b d = refl
 quoted-dead dead b d = absurd cc
 
-dead-tokens : (ks : List Token) → accepts dead ks ≡ false
+pub dead-tokens : (ks : List Token) → accepts dead ks ≡ false
 unfolding accepts move last
 dead-tokens [] = refl
 dead-tokens (k ∷ ks) = dead-tokens ks

@@ -17,7 +17,7 @@ use lib.Seq.{drop-cons, get_or-drop}
 use borrow.Author.Tests.{eq-eqb, ne_eqb}
 use Rattle.yacc_text.specs.Grammar.{kind_of, goes_on_byte, comment, slash_next, closes, stops}
 use Rattle.yacc_text.specs.Lex.{Next, goes, outside, rest, run_of, past_run, strip, longer, in_comment}
-use Rattle.yacc_text.proofs.Lexing.{run_more}
+use Rattle.yacc_text.proofs.Lexing.{run_more, run_none}
 use Rattle.yacc_lex.specs.Steps.{begins, behind_comment}
 
 -- the byte at a place, and what stands behind it
@@ -33,11 +33,6 @@ rest_long at t = ap length (rest_of at t) ∙ length-drop at t
 
 pub byte_behind : (at i : ℕ) (t : List ℕ) → get_or (take (length t - at) (drop at t)) i 0 ≡ get_or t (at + i) 0
 byte_behind at i t = ap (λ (k : List ℕ). get_or k i 0) (rest_of at t) ∙ get_or-drop at t i 0
-
--- `run_end`
-run_none : (b : ℕ) (k : List ℕ) → goes_on_byte (kind_of b) ≡ false → run_of (b ∷ k) ≡ []
-unfolding run_of
-run_none b k e = rw (e, run_of)
 
 run_byte : (b : ℕ) (k : List ℕ) (g : Bool) → goes_on_byte (kind_of b) ≡ g → take_while (λ c. goes_on_byte (kind_of c)) k ≡ run_of k → take_while (λ c. goes_on_byte (kind_of c)) (b ∷ k) ≡ run_of (b ∷ k)
 run_byte b k true e I = take_while-cons (λ c. goes_on_byte (kind_of c)) b k ∙ ap (λ (c : Bool). cond c (b ∷ take_while (λ d. goes_on_byte (kind_of d)) k) []) e ∙ ap (λ (l : List ℕ). b ∷ l) I ∙ sym (run_more b k e)

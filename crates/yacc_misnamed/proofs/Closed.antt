@@ -23,6 +23,8 @@ use Rattle.yacc_read.proofs.Known.{same_id_lem, known_cons, known_none, known_en
 use Rattle.yacc_misnamed.specs.Fault.{faulty, fault_from}
 use Rattle.yacc_misnamed.proofs.Laws.{known_both}
 use Rattle.yacc_misnamed.proofs.Fault.{none-cons, never, fault-goes, misnamed-fault, text_placed}
+use Rattle.laws.proofs.Bools.{or-none}
+use Rattle.yacc_enter.proofs.Laws.{dead-tokens}
 
 -- behind each id of a body stands what ends it; o: such an id came before
 closed : Bool → List Event → Bool
@@ -59,11 +61,6 @@ of_ident colon f es h = refl
 of_ident bar f es h = refl
 of_ident semi f es h = refl
 
-accepts-dead : (ts : List Token) → accepts dead ts ≡ false
-unfolding accepts last move
-accepts-dead [] = refl
-accepts-dead (t ∷ ts) = accepts-dead ts
-
 closed-step : (m : Mode) (t : Token) (from past : ℕ) (ts : List Token) (es : List Event) → accepts (move m t) ts ≡ true → closed (in_body (move m t)) es ≡ true → closed (in_body m) (event_of m t from past ++ es) ≡ true
 unfolding in_body event_of move closed
 closed-step (top s) t from past ts es a c = closed_none (in_body (move (top s) t)) es c
@@ -73,14 +70,14 @@ closed-step starting t from past ts es a c = of_ident t (λ x. opens x) es (λ x
 closed-step ruled t from past ts es a c = of_ident t (λ x. defines x from) es (λ x. refl) ∙ closed_none (in_body (move ruled t)) es c
 closed-step sided t from past ts es a c = closed_none (in_body (move sided t)) es c
 closed-step bodied (ident x) from past ts es a c = c
-closed-step bodied token from past ts es a c = clash (accepts dead ts) a (accepts-dead ts)
-closed-step bodied start from past ts es a c = clash (accepts dead ts) a (accepts-dead ts)
-closed-step bodied mark from past ts es a c = clash (accepts dead ts) a (accepts-dead ts)
-closed-step bodied colon from past ts es a c = clash (accepts dead ts) a (accepts-dead ts)
+closed-step bodied token from past ts es a c = clash (accepts dead ts) a (dead-tokens ts)
+closed-step bodied start from past ts es a c = clash (accepts dead ts) a (dead-tokens ts)
+closed-step bodied mark from past ts es a c = clash (accepts dead ts) a (dead-tokens ts)
+closed-step bodied colon from past ts es a c = clash (accepts dead ts) a (dead-tokens ts)
 closed-step bodied bar from past ts es a c = closed_none true es c
 closed-step bodied semi from past ts es a c = c
 closed-step done t from past ts es a c = of_ident t (λ x. defines x from) es (λ x. refl) ∙ closed_none (in_body (move done t)) es c
-closed-step dead t from past ts es a c = clash (accepts dead ts) a (accepts-dead ts)
+closed-step dead t from past ts es a c = clash (accepts dead ts) a (dead-tokens ts)
 
 ends-closed : (m : Mode) → last m ≡ true → not (in_body m) ≡ true
 unfolding last in_body
@@ -148,10 +145,6 @@ module _ (S : Source) where
       let r = none-cons used (uses x from past) es u in
       some?_no (faulty S) (uses x from past) es r.0 ∙ faulty-none es r.1 d s
   faulty-none (shuts at ∷ es) u d s = some?_no (faulty S) (shuts at) es refl ∙ faulty-none es (none-cons used (shuts at) es u).1 d s
-
-or-none : (a b : Bool) → (a || b) ≡ false → (a ≡ false) × (b ≡ false)
-or-none true b e = clash true refl e
-or-none false b e = (refl, e)
 
 named_none : (es : List Event) → closed false es ≡ true → misnamed (source_of es) ≡ false → some? (faulty (source_of es)) es ≡ false
 unfolding misnamed undefined_use named_both_ways undefined_start source_of

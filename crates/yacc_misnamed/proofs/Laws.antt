@@ -24,15 +24,12 @@ use Rattle.std.specs.Option.{is_some}
 use Rattle.yacc_names.specs.Names.{held}
 use Rattle.yacc_numbers.specs.Numbers.{place_in}
 use Rattle.yacc_enter.specs.Ids.{is_id}
+use Rattle.laws.proofs.Bools.{or_second}
 
 -- Booleans
 not-not : (b : Bool) → not (not b) ≡ b
 not-not true = refl
 not-not false = refl
-
-or-true : (a b : Bool) → b ≡ true → (a || b) ≡ true
-or-true true b e = refl
-or-true false b e = e
 
 -- an id that is known in both
 pub known_both : (ts ks : List Known) (x : Id) → is_known ks x ≡ true → is_known ts x ≡ true → some? (λ k. is_known ts k.id) ks ≡ true
@@ -40,13 +37,13 @@ known_both ts [] x h y = clash (is_known [] x) h (known_none x)
 known_both ts (k ∷ ks) x h y =
     cases (same_id x k.id)
     (λ e. some?-yes (λ j. is_known ts j.id) k ks (ap (is_known ts) (sym (same_id_eq x k.id e)) ∙ y))
-    (λ e. some?-cons (λ j. is_known ts j.id) k ks ∙ or-true (is_known ts k.id) (some? (λ j. is_known ts j.id) ks) (known_both ts ks x (sym (known_cons k ks x ∙ ap (λ (b : Bool). b || is_known ks x) e) ∙ h) y))
+    (λ e. some?-cons (λ j. is_known ts j.id) k ks ∙ or_second (is_known ts k.id) (some? (λ j. is_known ts j.id) ks) (known_both ts ks x (sym (known_cons k ks x ∙ ap (λ (b : Bool). b || is_known ks x) e) ∙ h) y))
 
 pub none_both : (ts ks : List Known) → ((x : Id) → is_known ks x ≡ true → is_known ts x ≡ false) → some? (λ k. is_known ts k.id) ks ≡ false
 none_both ts [] f = some?-nil (λ (j : Known). is_known ts j.id)
 none_both ts (k ∷ ks) f =
     some?_no (λ j. is_known ts j.id) k ks (f k.id (known_cons k ks k.id ∙ ap (λ (b : Bool). b || is_known ks k.id) (same_id_lem k.id)))
-    ∙ none_both ts ks (λ x h. f x (known_cons k ks x ∙ or-true (same_id x k.id) (is_known ks x) h))
+    ∙ none_both ts ks (λ x h. f x (known_cons k ks x ∙ or_second (same_id x k.id) (is_known ks x) h))
 
 -- a word that holds the place of an id
 by_word : (b : Bool) (n w : ℕ) → w ≡ elim b [ true ↦ suc n | false ↦ 0 ] → b ≡ not (eqb w 0)

@@ -26,6 +26,7 @@ use Rattle.yacc_enter.specs.Ids.{name_id, token_id, Held}
 use Rattle.yacc_enter.proofs.Laws.{token_name}
 use Rattle.yacc_misnamed.specs.Parts.{Verdict, judged, verdict_of, lost_of, twice, twice_of}
 use Rattle.yacc_misnamed.proofs.Laws.{known_both, none_both, placed_known}
+use Rattle.laws.proofs.Bools.{and-true}
 
 -- the ids of alternatives
 ids_more : (t : Id → Bool) (us : List Use) (u : Use) → some? t (map (λ v. v.id) (us ++ (u ∷ []))) ≡ (some? t (map (λ v. v.id) us) || t u.id)
@@ -69,11 +70,6 @@ pub verdict_undefined : (es : List Event) → verdict_of (nowhere (source_of es)
 unfolding undefined_use source_of
 verdict_undefined es = verdict_from (nowhere (source_of es)) es false false no_id [] (sym (some?-nil (nowhere (source_of es))))
 
--- names with two numbers
-and_both : (a b : Bool) → (a && b) ≡ true → (a ≡ true) × (b ≡ true)
-and_both true b e = (refl, e)
-and_both false b e = clash false e refl
-
 module _ (t starts pasts ix lefts tokens : List ℕ) (ids : Ids) (ns ts : List Known) (H : Held t starts pasts ix lefts tokens ids ns ts) where
   word-both : (j : ℕ) → j < ids.names → twice lefts tokens j ≡ (is_known ns (name_id t starts pasts j) && is_known ts (name_id t starts pasts j))
   unfolding twice
@@ -89,7 +85,7 @@ module _ (t starts pasts ix lefts tokens : List ℕ) (ids : Ids) (ns ts : List K
   both_yes y =
       let w = some?-below_witness (twice lefts tokens) ids.names y in
       let x = name_id t starts pasts w.0 in
-      let b = and_both (is_known ns x) (is_known ts x) (sym (word-both w.0 w.1) ∙ w.2) in
+      let b = and-true (is_known ns x) (is_known ts x) (sym (word-both w.0 w.1) ∙ w.2) in
       known_both ts ns x b.0 b.1
 
   both_no : twice_of lefts tokens ids.names ≡ false → some? (λ k. is_known ts k.id) ns ≡ false

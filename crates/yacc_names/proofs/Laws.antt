@@ -49,14 +49,6 @@ pub bucket_small : (bs : List ℕ) → bucket_number bs < bucket_limit
 unfolding bucket_number
 bucket_small bs = omega arith
 
--- equal slices
-pub same_is : (xs ys : List ℕ) → pointwise eqb xs ys ≡ same_words xs ys
-unfolding same_words
-same_is [] [] = refl
-same_is [] (y ∷ ys) = refl
-same_is (x ∷ xs) [] = refl
-same_is (x ∷ xs) (y ∷ ys) = ap (λ (b : Bool). eqb x y && b) (same_is xs ys)
-
 -- the latest that passes
 latest-yes : (u : ℕ → Bool) (k : ℕ) → u k ≡ true → latest u (suc k) ≡ suc k
 unfolding latest

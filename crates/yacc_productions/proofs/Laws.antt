@@ -15,7 +15,6 @@ use Rattle.repr.specs.Meaning.{Symbol, nonterminal, terminal, Production, no_pro
 use Rattle.repr.specs.Packed.{production_in, productions_in}
 use Rattle.repr.proofs.Lists.{cases, clash, get_d_map, length_mapped}
 use Rattle.repr.proofs.Tests.{some?-cons, some?-append, some?_intro, All_at}
-use Rattle.repr.proofs.Listed.{and_left, and_right}
 use Rattle.table.specs.Quads.{put_quad}
 use Rattle.spelling.specs.Spelled.{kind_of, number_of}
 use Rattle.spelling.proofs.Meaning.{map-below-is}
@@ -49,12 +48,9 @@ use Rattle.repr.specs.Symbols.{meant}
 use Rattle.yacc_productions.specs.Readable.{Readable, Whole}
 use Rattle.yacc_productions.specs.Turn.{in_rule, pairs, begun_at, ended_at, ids_of, symbol_place, Added, Closed, Stored, Opened, Turn}
 use Rattle.yacc_productions.specs.declared.Body.{Body}
-use Rattle.yacc_productions.proofs.Words.{pairs_snoc, fits-pairs, put_two, stored_front, head-front, stored_new}
-
--- Booleans, lists
-or-none : (a b : Bool) → (a || b) ≡ false → (a ≡ false) × (b ≡ false)
-or-none true b e = clash true refl e
-or-none false b e = (refl, e)
+use Rattle.yacc_productions.proofs.Words.{pairs_snoc, fits-pairs, stored_front, head-front, stored_new}
+use Rattle.laws.proofs.Bools.{or-none, and_left, and_right}
+use Rattle.table.proofs.Written.{put_two}
 
 implied : (a b : Bool) → (not a || b) ≡ true → a ≡ true → b ≡ true
 implied true b e h = e

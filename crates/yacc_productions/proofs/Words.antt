@@ -47,18 +47,6 @@ fits-pairs T a b [] A = refl
 fits-pairs T a b (nonterminal n ∷ ss) A = let h = A.0 in ap (λ (t : Bool). t && list_is_fit nonterminal_limit terminal_limit (pairs ss)) (lt-ltb n nonterminal_limit (omega (arith, h, a))) ∙ fits-pairs T a b ss A.1
 fits-pairs T a b (terminal n ∷ ss) A = let h = A.0 in ap (λ (t : Bool). t && list_is_fit nonterminal_limit terminal_limit (pairs ss)) (lt-ltb n terminal_limit (omega (arith, h, b))) ∙ fits-pairs T a b ss A.1
 
--- two words more behind j from place a on
-pub put_two : (g : List ℕ) (a j k x : ℕ) → a + j + 1 < length g → take (j + 2) (drop a (set (set g (a + j) k) (a + j + 1) x)) ≡ take j (drop a g) ++ k ∷ x ∷ []
-put_two g a j k x h =
-    let e : a + j + 1 ≡ a + suc j = omega arith in
-    let two : j + 2 ≡ suc (suc j) = omega arith in
-    let d = length-drop a g in
-    let s = length-set (drop a g) j k in
-    rw (e, drop-set-add a (set g (a + j) k) (suc j) x, drop-set-add a g j k, two)
-    (take-suc-set (set (drop a g) j k) (suc j) x (omega arith)
-    ∙ ap (λ (l : List ℕ). l ++ x ∷ []) (take-suc-set (drop a g) j k (omega arith))
-    ∙ append_assoc (take j (drop a g)) (k ∷ []) (x ∷ []))
-
 -- the productions in front of what changes stay
 pub stored_front : (T : Table) (g g' : List ℕ) (n q : ℕ) → take (production_place n) g' ≡ take (production_place n) g → q < n → Stored T g q → Stored T g' q
 unfolding symbol_words production_in

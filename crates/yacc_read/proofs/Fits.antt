@@ -24,6 +24,7 @@ use Rattle.yacc_read.specs.Source.{is_known, number_in, Alternative, Source, no_
 use Rattle.yacc_read.specs.Meaning.{symbol_of, production_of, productions_of, owned, table_of}
 use Rattle.yacc_read.specs.Outcome.{nowhere, undefined_use, misnamed, too_many, too_long}
 use Rattle.yacc_read.proofs.Known.{number-below}
+use Rattle.laws.proofs.Bools.{or-none}
 
 -- what 20, 21, 2 and 5 leave
 pub record Good (Q : Source) : Type 0 where
@@ -32,10 +33,6 @@ pub record Good (Q : Source) : Type 0 where
   pub named : misnamed Q ≡ false
   pub few : too_many Q ≡ false
   pub short : too_long 0 Q.alternatives ≡ none
-
-or-false : (a b : Bool) → (a || b) ≡ false → (a ≡ false) × (b ≡ false)
-or-false true b e = let o : ◌≡◌ {A = ℕ} 0 1 = cc in absurd (omega arith)
-or-false false b e = (refl, e)
 
 tokens_few : (Q : Source) → length Q.terminals ≤ 63 → (table_of Q).terminals ≤ 63
 unfolding table_of
@@ -91,7 +88,7 @@ module _ (Q : Source) where
   unfolding All
   symbols_fit_lem [] h = tt
   symbols_fit_lem (x ∷ xs) h =
-      let o = or-false (nowhere Q x) (some? (nowhere Q) xs) (sym (some?-cons (nowhere Q) x xs) ∙ h) in
+      let o = or-none (nowhere Q x) (some? (nowhere Q) xs) (sym (some?-cons (nowhere Q) x xs) ∙ h) in
       (symbol_fits x o.0, symbols_fit_lem xs o.1)
 
   -- a production in range
@@ -116,7 +113,7 @@ module _ (Q : Source) where
   productions_fit p [] A l n = tt
   productions_fit p (a ∷ xs) A l n =
       let s = not_long p a xs l in
-      let o = or-false (some? (nowhere Q) a.ids) (some? (λ (b : Alternative). some? (nowhere Q) b.ids) xs) (sym (some?-cons (λ (b : Alternative). some? (nowhere Q) b.ids) a xs) ∙ n) in
+      let o = or-none (some? (nowhere Q) a.ids) (some? (λ (b : Alternative). some? (nowhere Q) b.ids) xs) (sym (some?-cons (λ (b : Alternative). some? (nowhere Q) b.ids) a xs) ∙ n) in
       (production-fits a A.0 s.0 o.0, productions_fit (suc p) xs A.1 s.1 o.1)
 
   -- how many records
@@ -134,13 +131,13 @@ module _ (Q : Source) where
   module _ (G : Good Q) where
     unnamed : some? (λ (a : Alternative). some? (nowhere Q) a.ids) Q.alternatives ≡ false
     unfolding misnamed undefined_use
-    unnamed = (or-false (undefined_use Q) _ G.named).0
+    unnamed = (or-none (undefined_use Q) _ G.named).0
 
     counts : (length Q.nonterminals ≤ 32) × (length Q.terminals ≤ 63) × (length Q.alternatives ≤ 128)
     unfolding too_many
     counts =
-        let a = or-false (ltb 32 (length Q.nonterminals)) (ltb 63 (length Q.terminals) || ltb 128 (length Q.alternatives)) G.few in
-        let b = or-false (ltb 63 (length Q.terminals)) (ltb 128 (length Q.alternatives)) a.1 in
+        let a = or-none (ltb 32 (length Q.nonterminals)) (ltb 63 (length Q.terminals) || ltb 128 (length Q.alternatives)) G.few in
+        let b = or-none (ltb 63 (length Q.terminals)) (ltb 128 (length Q.alternatives)) a.1 in
         (ltb-false 32 (length Q.nonterminals) a.0, ltb-false 63 (length Q.terminals) b.0, ltb-false 128 (length Q.alternatives) b.1)
 
     all_fit : All (ProductionFits (table_of Q)) (table_of Q).productions

@@ -14,6 +14,7 @@ use Rattle.repr.proofs.Lists.{cases}
 use Rattle.repr.proofs.Tests.{some?-nil, some?-yes, some?_no, some?-append}
 use Rattle.yacc_text.specs.Grammar.{Id, named, quoted}
 use Rattle.yacc_read.specs.Source.{same_id, Known, is_known, number_in, enter, entered}
+use Rattle.laws.proofs.Bools.{or_second}
 
 pub same_id_lem : (x : Id) → same_id x x ≡ true
 unfolding same_id
@@ -32,10 +33,6 @@ known_one : (k : Known) → is_known (k ∷ []) k.id ≡ true
 unfolding is_known
 known_one k = some?-yes (is_it k.id) k [] (same_id_lem k.id)
 
-or-true : (a b : Bool) → b ≡ true → (a || b) ≡ true
-or-true true b e = refl
-or-true false b e = e
-
 pub enter_old : (ks : List Known) (k : Known) → is_known ks k.id ≡ true → enter ks k ≡ ks
 unfolding enter
 enter_old ks k e = rw (e, enter)
@@ -47,7 +44,7 @@ enter_new ks k e = rw (e, enter)
 enter_known : (ks : List Known) (k : Known) → is_known (enter ks k) k.id ≡ true
 enter_known ks k =
     cases (is_known ks k.id) (λ e. ap (λ (l : List Known). is_known l k.id) (enter_old ks k e) ∙ e)
-    (λ e. ap (λ (l : List Known). is_known l k.id) (enter_new ks k e) ∙ known_more ks k k.id ∙ or-true (is_known ks k.id) (is_known (k ∷ []) k.id) (known_one k))
+    (λ e. ap (λ (l : List Known). is_known l k.id) (enter_new ks k e) ∙ known_more ks k k.id ∙ or_second (is_known ks k.id) (is_known (k ∷ []) k.id) (known_one k))
 
 enter-keeps : (ks : List Known) (k : Known) (x : Id) → is_known ks x ≡ true → is_known (enter ks k) x ≡ true
 enter-keeps ks k x h =

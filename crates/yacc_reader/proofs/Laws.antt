@@ -12,7 +12,6 @@ use Rattle.slices.specs.Lent.{in_front}
 use Rattle.repr.specs.Reply.{Reply, answered, refused}
 use Rattle.repr.specs.Meaning.{no_state, TableFits}
 use Rattle.repr.proofs.Lists.{cases, clash, length_mapped}
-use Rattle.repr.proofs.Listed.{and_left, and_right}
 use Rattle.spelling.specs.Spelled.{records_of, spell}
 use Rattle.grammar_records.specs.Target.{PackedAs}
 use Rattle.augment.specs.Started.{started_as, started_in, GrammarOf, Outcome as Alone}
@@ -45,6 +44,8 @@ use Rattle.yacc_enter.specs.declared.Ids.{Ids}
 use Rattle.yacc_enter.specs.Ids.{Named, Fresh}
 use Rattle.yacc_productions.specs.Readable.{Readable}
 use Rattle.yacc_reader.specs.Passed.{Passes}
+use Rattle.laws.proofs.Bools.{and_left, and_right}
+use Rattle.laws.proofs.Lists.{zero_at}
 
 -- a text of the grammar has a layout
 module _ (t : List ℕ) where
@@ -148,12 +149,6 @@ pub fault_told : (l : Layout) (r : Answer ℕ) → found_at r ≡ fault_from (so
 unfolding found_at
 fault_told l None e y = let k = misnamed-fault l y in never k.0 (e ∙ k.1)
 fault_told l (Some j) e y = sym e
-
--- `read_in`: arrays of zeros are fresh
-zero_at : (n i : ℕ) → ◌≡◌ {A = ℕ} (get_or (replicate n 0) i 0) 0
-zero_at zero i = refl
-zero_at (suc n) zero = refl
-zero_at (suc n) (suc i) = zero_at n i
 
 pub fresh_zeros : (t : List ℕ) → length t ≤ text_limit → (a b c d e : ℕ) → text_limit ≤ a → text_limit ≤ b → bucket_limit + text_limit ≤ c → text_limit ≤ d → byte_limit + text_limit ≤ e → Fresh t (replicate a 0) (replicate b 0) (replicate c 0) (replicate d 0) (replicate e 0)
 fresh_zeros t h a b c d e ha hb hc hd he =

@@ -17,13 +17,13 @@ use Rattle.yacc_text.specs.Lex.{lex}
 use Rattle.yacc_text.specs.Parse.{parse}
 use Rattle.yacc_text.specs.Places.{placed_in, placed_from}
 use Rattle.yacc_text.specs.Forward.{Mode, top, wanted, listed, starting, ruled, sided, bodied, done, dead, sides, move, last, accepts}
-use Rattle.yacc_text.proofs.Lexing.{and_split}
 use Rattle.yacc_text.proofs.Exact.{parse-complete, parse_sound}
 use Rattle.yacc_tokens.specs.Accepted.{judged, is_grammar_text}
 use Rattle.yacc_tokens.proofs.Laws.{tokens-placed, judged-whole}
 use Rattle.yacc_stray.specs.Stray.{Begins, IsStray}
 use Rattle.yacc_stray.specs.Automaton.{Part, between, run, signed, word, opened, filled, slashed, inside, starred, State, at, lost, initial, signs, marks, step_kind, step_signed, step_word, step_inside, step_part, step, fed, ending, final, ok}
 use Rattle.yacc_stray.proofs.Automaton.{ok-dead, ok_pieces, pieces_ok}
+use Rattle.laws.proofs.Bools.{and-true}
 
 -- the automaton accepts the texts of the grammar
 pieces_judged : (m : Mode) (o : Option (List Piece)) → ok_pieces m o ≡ judged m (placed_in 0 o)
@@ -101,7 +101,7 @@ live_word : (ws : List ℕ) (m : Mode) → is_dead m ≡ false → ascii ws ≡ 
 unfolding Live fed step_part step_kind step_word kind_of is_white_byte goes_on_byte every?
 live_word [] m e a = (32 ∷ tail m, tail-ok m e, tail_ascii m)
 live_word (w ∷ ws) m e a =
-    let h = and_split (ltb w 128) (ascii ws) (sym (every?_cons (λ b. ltb b 128) w ws) ∙ a) in
+    let h = and-true (ltb w 128) (ascii ws) (sym (every?_cons (λ b. ltb b 128) w ws) ∙ a) in
     let L = live_word ws m e h.1 in
     (w ∷ L.0, ap (λ (o : Bool). ok (elim o [ true ↦ at m (word ws) | false ↦ lost ]) L.0) (eq-eqb w w refl) ∙ L.1, every?_yes (λ b. ltb b 128) w L.0 h.0 ∙ L.2)
 
@@ -171,7 +171,7 @@ plain_part between m b a = plain_kind (kind_of b) m
 plain_part run m b a = plain_either (goes_on_byte (kind_of b)) (at m run) (step_kind (kind_of b) m) refl (plain_kind (kind_of b) m)
 plain_part signed m b a = plain_either (eqb 37 b) (at (marks m) between) _ refl (plain_either (eqb 116 b) (at (move m token) (word (111 ∷ 107 ∷ 101 ∷ 110 ∷ []))) _ refl (plain_either (eqb 115 b) (at (move m start) (word (116 ∷ 97 ∷ 114 ∷ 116 ∷ []))) lost refl refl))
 plain_part (word []) m b a = plain_either (goes_on_byte (kind_of b)) lost (step_kind (kind_of b) m) refl (plain_kind (kind_of b) m)
-plain_part (word (w ∷ ws)) m b a = plain_either (eqb w b) (at m (word ws)) lost (and_split (ltb w 128) (ascii ws) (sym (every?_cons (λ c. ltb c 128) w ws) ∙ a)).1 refl
+plain_part (word (w ∷ ws)) m b a = plain_either (eqb w b) (at m (word ws)) lost (and-true (ltb w 128) (ascii ws) (sym (every?_cons (λ c. ltb c 128) w ws) ∙ a)).1 refl
 plain_part opened m b a = plain_either (literal_byte b) (at m filled) lost refl refl
 plain_part filled m b a = plain_either (eqb b 39) (at m between) lost refl refl
 plain_part slashed m b a = plain_either (eqb 42 b) (at m inside) lost refl refl

@@ -10,13 +10,10 @@ use lib.ListN.{length, length-append}
 use borrow.Author.Tests.{not-true, eqb-true}
 use Rattle.yacc_text.specs.Grammar.{Kind, blank, letter, digit, quote, percent, slash, colons, bars, semis, other, kind_of, is_white_byte, is_letter_byte, is_digit_byte, blank?, letter?, goes_on_byte, Id, named, quoted, Token, ident, token, start, mark, colon, bar, semi, Piece, white, comment, piece, spell_id, spell_token, spell_piece, spell_all, all_run, slash_next, closes, clear, literal_byte, ok_id, ok_token, ok_piece, stops, apart_id, apart_token, apart, fits}
 use Rattle.yacc_text.specs.Lex.{Next, goes, ends, outside, rest, run_of, past_run, strip, literal_if, next_literal, word_if, start_or, token_or, mark_or, longer, in_comment, comment_or, next_of, next, before, after, lex_steps, lex}
+use Rattle.laws.proofs.Bools.{and-true, both}
 
 false-true : ◌≡◌ {A = Bool} false true → ⊥
 false-true q = let w : ◌≡◌ {A = ℕ} 0 1 = ap (λ (o : Bool). elim o [ false ↦ 0 | true ↦ 1 ]) q in omega arith
-
-pub and_split : (a b : Bool) → a && b ≡ true → (a ≡ true) × (b ≡ true)
-and_split true b e = (refl, e)
-and_split false b e = absurd (false-true e)
 
 -- a name: the longest run
 run-stops : (k : List ℕ) → stops k ≡ true → run_of k ≡ []
@@ -40,12 +37,12 @@ past_more b k e = rw (e, past_run)
 pub run-all : (ns k : List ℕ) → all_run ns ≡ true → stops k ≡ true → run_of (ns ++ k) ≡ ns
 unfolding all_run
 run-all [] k a e = run-stops k e
-run-all (b ∷ ns) k a e = let s = and_split (goes_on_byte (kind_of b)) (all_run ns) a in run_more b (ns ++ k) s.0 ∙ ap (λ (l : List ℕ). b ∷ l) (run-all ns k s.1 e)
+run-all (b ∷ ns) k a e = let s = and-true (goes_on_byte (kind_of b)) (all_run ns) a in run_more b (ns ++ k) s.0 ∙ ap (λ (l : List ℕ). b ∷ l) (run-all ns k s.1 e)
 
 pub past_all : (ns k : List ℕ) → all_run ns ≡ true → stops k ≡ true → past_run (ns ++ k) ≡ k
 unfolding all_run
 past_all [] k a e = past_stops k e
-past_all (b ∷ ns) k a e = let s = and_split (goes_on_byte (kind_of b)) (all_run ns) a in past_more b (ns ++ k) s.0 ∙ past_all ns k s.1 e
+past_all (b ∷ ns) k a e = let s = and-true (goes_on_byte (kind_of b)) (all_run ns) a in past_more b (ns ++ k) s.0 ∙ past_all ns k s.1 e
 
 -- a comment: the first end
 slash_same : (cs k : List ℕ) → slash_next (cs ++ (42 ∷ 47 ∷ k)) ≡ slash_next cs
@@ -123,14 +120,14 @@ comment-all : (cs k : List ℕ) → clear cs ≡ true → in_comment (cs ++ (42 
 unfolding clear in_comment closes slash_next rest longer
 comment-all [] k e = refl
 comment-all (b ∷ cs) k e =
-    let s = and_split (not (closes b cs)) (not (eqb b 0) && clear cs) e in
-    let r = and_split (not (eqb b 0)) (clear cs) s.1 in
+    let s = and-true (not (closes b cs)) (not (eqb b 0) && clear cs) e in
+    let r = and-true (not (eqb b 0)) (clear cs) s.1 in
     comment-more b (cs ++ (42 ∷ 47 ∷ k)) (closes_eq b cs k ∙ not-true (closes b cs) s.0) (not-true (eqb b 0) r.0) ∙ ap (longer b) (comment-all cs k r.1)
 
 next_id : (x : Id) (k : List ℕ) → ok_id x ≡ true → apart_id x k ≡ true → next (spell_id x k) ≡ goes (piece (ident x)) k
 unfolding ok_id apart_id spell_id next next_of kind_of is_white_byte is_letter_byte is_digit_byte next_literal literal_if
 next_id (named n ns) k o a =
-    let s = and_split (letter? (kind_of n)) (all_run ns) o in
+    let s = and-true (letter? (kind_of n)) (all_run ns) o in
     next_name n (ns ++ k) (letter_is (kind_of n) s.0)
     ∙ ap (λ (l : List ℕ). goes (piece (ident (named n l))) (past_run (ns ++ k))) (run-all ns k s.1 a)
     ∙ ap (λ (l : List ℕ). goes (piece (ident (named n ns))) l) (past_all ns k s.1 a)
@@ -158,14 +155,11 @@ Reads (goes p k) t = (ok_piece p ≡ true) × (apart p k ≡ true) × (spell_pie
 Reads ends t = t ≡ []
 Reads outside t = Unit {0}
 
-and_both : (a b : Bool) → a ≡ true → b ≡ true → a && b ≡ true
-and_both a b x y = ap (λ (c : Bool). c && b) x ∙ y
-
 -- a run
 abbrev Run : List ℕ → Type 0
 Run bs = (all_run (run_of bs) ≡ true) × (stops (past_run bs) ≡ true) × (run_of bs ++ past_run bs ≡ bs)
 
-run_none : (b : ℕ) (k : List ℕ) → goes_on_byte (kind_of b) ≡ false → run_of (b ∷ k) ≡ []
+pub run_none : (b : ℕ) (k : List ℕ) → goes_on_byte (kind_of b) ≡ false → run_of (b ∷ k) ≡ []
 unfolding run_of
 run_none b k e = rw (e, run_of)
 
@@ -182,7 +176,7 @@ unfolding all_run
 run_step b bs true e R =
     let m = run_more b bs e in
     let q = past_more b bs e in
-    (ap all_run m ∙ and_both (goes_on_byte (kind_of b)) (all_run (run_of bs)) e R.0, ap stops q ∙ R.1, ap (λ (l : List ℕ). l ++ past_run (b ∷ bs)) m ∙ ap (λ (l : List ℕ). b ∷ (run_of bs ++ l)) q ∙ ap (λ (l : List ℕ). b ∷ l) R.2)
+    (ap all_run m ∙ both (goes_on_byte (kind_of b)) (all_run (run_of bs)) e R.0, ap stops q ∙ R.1, ap (λ (l : List ℕ). l ++ past_run (b ∷ bs)) m ∙ ap (λ (l : List ℕ). b ∷ (run_of bs ++ l)) q ∙ ap (λ (l : List ℕ). b ∷ l) R.2)
 run_step b bs false e R =
     let m = run_none b bs e in
     let q = past_none b bs e in
@@ -196,7 +190,7 @@ run-parts (b ∷ bs) = run_step b bs (goes_on_byte (kind_of b)) refl (run-parts 
 -- a literal
 literal_by : (c d : ℕ) (k : List ℕ) (t : Bool) → literal_byte c && eqb d 39 ≡ t → Reads (literal_if t c k) (39 ∷ c ∷ d ∷ k)
 unfolding literal_if ok_piece ok_token ok_id apart apart_token apart_id spell_piece spell_token spell_id
-literal_by c d k true e = let s = and_split (literal_byte c) (eqb d 39) e in (s.0, refl, ap (λ (x : ℕ). 39 ∷ c ∷ x ∷ k) (sym (eqb-true d 39 s.1)))
+literal_by c d k true e = let s = and-true (literal_byte c) (eqb d 39) e in (s.0, refl, ap (λ (x : ℕ). 39 ∷ c ∷ x ∷ k) (sym (eqb-true d 39 s.1)))
 literal_by c d k false e = tt
 
 literal_sound : (bs : List ℕ) → Reads (next_literal bs) (39 ∷ bs)
@@ -268,7 +262,7 @@ slash_is (b ∷ bs) e = ap (λ (x : ℕ). x ∷ bs) (sym (eqb-true b 47 e))
 closes_is : (b : ℕ) (bs : List ℕ) → closes b bs ≡ true → 42 ∷ 47 ∷ rest bs ≡ b ∷ bs
 unfolding closes
 closes_is b bs e =
-    let s = and_split (eqb b 42) (slash_next bs) e in
+    let s = and-true (eqb b 42) (slash_next bs) e in
     ap (λ (l : List ℕ). 42 ∷ l) (slash_is bs s.1) ∙ ap (λ (x : ℕ). x ∷ bs) (sym (eqb-true b 42 s.0))
 
 comment_end : (b : ℕ) (bs : List ℕ) → closes b bs ≡ true → in_comment (b ∷ bs) ≡ goes (comment []) (rest bs)
@@ -283,7 +277,7 @@ commented_longer : (b : ℕ) (x : Next) (bs : List ℕ) → closes b bs ≡ fals
 unfolding longer clear
 commented_longer b (goes (comment cs) r) bs e z C =
     let f : closes b cs ≡ false = sym (closes_eq b cs r) ∙ ap (closes b) C.1 ∙ e in
-    (and_both (not (closes b cs)) (not (eqb b 0) && clear cs) (ap not f) (and_both (not (eqb b 0)) (clear cs) (ap not z) C.0), ap (λ (l : List ℕ). b ∷ l) C.1)
+    (both (not (closes b cs)) (not (eqb b 0) && clear cs) (ap not f) (both (not (eqb b 0)) (clear cs) (ap not z) C.0), ap (λ (l : List ℕ). b ∷ l) C.1)
 commented_longer b (goes (white c) r) bs e z C = absurd C
 commented_longer b (goes (piece t) r) bs e z C = absurd C
 commented_longer b ends bs e z C = absurd C
@@ -345,7 +339,7 @@ means b =
 kind_sound : (κ : Kind) (b : ℕ) (bs : List ℕ) → kind_of b ≡ κ → Means κ b → Reads (next_of κ b bs) (b ∷ bs)
 unfolding next_of ok_piece ok_token ok_id apart apart_token apart_id spell_piece spell_token spell_id blank? letter?
 kind_sound blank b bs e m = (ap blank? e, refl, refl)
-kind_sound letter b bs e m = let R = run-parts bs in (and_both (letter? (kind_of b)) (all_run (run_of bs)) (ap letter? e) R.0, R.1, ap (λ (l : List ℕ). b ∷ l) R.2)
+kind_sound letter b bs e m = let R = run-parts bs in (both (letter? (kind_of b)) (all_run (run_of bs)) (ap letter? e) R.0, R.1, ap (λ (l : List ℕ). b ∷ l) R.2)
 kind_sound digit b bs e m = tt
 kind_sound quote b bs e m = subst (λ (c : ℕ). Reads (next_literal bs) (c ∷ bs)) (sym m) (literal_sound bs)
 kind_sound percent b bs e m = subst (λ (c : ℕ). Reads (mark_or (strip (37 ∷ []) bs) bs) (c ∷ bs)) (sym m) (mark_by bs (strip (37 ∷ []) bs) refl)
@@ -367,8 +361,8 @@ steps_all [] zero f h = refl
 steps_all [] (suc n) f h = refl
 steps_all (p ∷ ps) zero f h = let l = shorter p (spell_all ps) in absurd (omega arith)
 steps_all (p ∷ ps) (suc m) f h =
-    let s = and_split (ok_piece p) (apart p (spell_all ps) && fits ps) f in
-    let r = and_split (apart p (spell_all ps)) (fits ps) s.1 in
+    let s = and-true (ok_piece p) (apart p (spell_all ps) && fits ps) f in
+    let r = and-true (apart p (spell_all ps)) (fits ps) s.1 in
     let l = shorter p (spell_all ps) in
     ap (λ (x : Next). after x (λ k. lex_steps m k)) (next-complete p (spell_all ps) s.0 r.0) ∙ ap (before p) (steps_all ps m r.1 (omega arith))
 
@@ -384,7 +378,7 @@ goes_sound p k t none R ih ps e = absurd (none-some ps e)
 goes_sound p k t (some qs) R ih ps e =
     let i : p ∷ qs ≡ ps = cc in
     let Q = ih qs refl in
-    let f : fits (p ∷ qs) ≡ true = and_both (ok_piece p) (apart p (spell_all qs) && fits qs) R.0 (and_both (apart p (spell_all qs)) (fits qs) (ap (apart p) Q.1 ∙ R.1) Q.0) in
+    let f : fits (p ∷ qs) ≡ true = both (ok_piece p) (apart p (spell_all qs) && fits qs) R.0 (both (apart p (spell_all qs)) (fits qs) (ap (apart p) Q.1 ∙ R.1) Q.0) in
     (ap fits (sym i) ∙ f, ap spell_all (sym i) ∙ ap (spell_piece p) Q.1 ∙ R.2)
 
 after_sound : (x : Next) (f : List ℕ → Option (List Piece)) (t : List ℕ) → Reads x t → ((k : List ℕ) (qs : List Piece) → f k ≡ some qs → Spelled qs k) → (ps : List Piece) → after x f ≡ some ps → Spelled ps t

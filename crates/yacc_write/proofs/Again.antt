@@ -14,7 +14,6 @@ use Rattle.repr.proofs.Tests.{All_at, some?_no, some?-nil}
 use Rattle.spelling.specs.Spelled.{owns, Ordered}
 use Rattle.spelling.proofs.Rising.{Rising, rising_wider, rising_from}
 use Rattle.yacc_text.specs.Grammar.{Id, named, quoted, Token, mark, colon, semi, spell_all}
-use Rattle.yacc_text.proofs.Lexing.{and_split}
 use Rattle.yacc_text.specs.Places.{placed}
 use Rattle.yacc_text.specs.Forward.{top}
 use Rattle.yacc_read.specs.Events.{Event, lists, opens, defines, uses, shuts, events}
@@ -27,8 +26,9 @@ use Rattle.yacc_read.proofs.Ids.{ids_of, known_id, number_id, entered_ids, known
 use Rattle.yacc_write.specs.Text.{ascending, name_of, name_token, token_line, production_line, lines, line, pieces_of, text_of}
 use Rattle.yacc_write.specs.Files.{rule_of, defs_of, file_of, layout_of}
 use Rattle.yacc_write.proofs.Names.{number_of}
-use Rattle.yacc_write.proofs.Sound.{layout_sound}
+use Rattle.yacc_write.proofs.Sound.{layout_sound, token_small}
 use Rattle.yacc_write.proofs.Order.{names_differ, known_below, number-below_is, Follows, entered_follows, Firsts, follows}
+use Rattle.laws.proofs.Bools.{and-true}
 
 -- first productions that ascend
 head_or : List ℕ → ℕ
@@ -39,9 +39,9 @@ asc_low : (ns : List (List ℕ)) (lo a : ℕ) → ascending lo ns ≡ true → a
 unfolding ascending head_or
 asc_low [] lo a e h = absurd (omega arith)
 asc_low ([] ∷ ns) lo a e h = clash false e refl
-asc_low ((q ∷ qs) ∷ ns) lo zero e h = leb-true lo q (and_split (leb lo q) (ascending (suc q) ns) e).0
+asc_low ((q ∷ qs) ∷ ns) lo zero e h = leb-true lo q (and-true (leb lo q) (ascending (suc q) ns) e).0
 asc_low ((q ∷ qs) ∷ ns) lo (suc a) e h =
-    let s = and_split (leb lo q) (ascending (suc q) ns) e in
+    let s = and-true (leb lo q) (ascending (suc q) ns) e in
     let l = leb-true lo q s.0 in
     let i = asc_low ns (suc q) a s.1 (omega arith) in
     omega arith
@@ -51,15 +51,15 @@ unfolding ascending head_or
 asc_rise [] lo a b e g h = absurd (omega arith)
 asc_rise ([] ∷ ns) lo a b e g h = clash false e refl
 asc_rise ((q ∷ qs) ∷ ns) lo a zero e g h = absurd (omega arith)
-asc_rise ((q ∷ qs) ∷ ns) lo zero (suc b) e g h = asc_low ns (suc q) b (and_split (leb lo q) (ascending (suc q) ns) e).1 (omega arith)
-asc_rise ((q ∷ qs) ∷ ns) lo (suc a) (suc b) e g h = asc_rise ns (suc q) a b (and_split (leb lo q) (ascending (suc q) ns) e).1 (omega arith) (omega arith)
+asc_rise ((q ∷ qs) ∷ ns) lo zero (suc b) e g h = asc_low ns (suc q) b (and-true (leb lo q) (ascending (suc q) ns) e).1 (omega arith)
+asc_rise ((q ∷ qs) ∷ ns) lo (suc a) (suc b) e g h = asc_rise ns (suc q) a b (and-true (leb lo q) (ascending (suc q) ns) e).1 (omega arith) (omega arith)
 
 asc_some : (ns : List (List ℕ)) (lo a : ℕ) → ascending lo ns ≡ true → a < length ns → mem (head_or (get_or ns a [])) (get_or ns a []) ≡ true
 unfolding ascending head_or
 asc_some [] lo a e h = absurd (omega arith)
 asc_some ([] ∷ ns) lo a e h = clash false e refl
 asc_some ((q ∷ qs) ∷ ns) lo zero e h = mem-cons_here q qs
-asc_some ((q ∷ qs) ∷ ns) lo (suc a) e h = asc_some ns (suc q) a (and_split (leb lo q) (ascending (suc q) ns) e).1 (omega arith)
+asc_some ((q ∷ qs) ∷ ns) lo (suc a) e h = asc_some ns (suc q) a (and-true (leb lo q) (ascending (suc q) ns) e).1 (omega arith)
 
 keep_rising : (t : ℕ → Bool) (k lo : ℕ) → Rising lo (keep t (up_from lo k))
 unfolding Rising keep up_from
@@ -88,7 +88,7 @@ module _ (T : Table) (F : TableFits T) (O : Ordered T) (A : ascending 0 T.nonter
   unfolding owns
   first_in a h =
       let m : mem (first_of T a) (keep (owns T a) (below (length T.productions))) ≡ true = subst (λ (l : List ℕ). mem (first_of T a) l ≡ true) (O.lists a h) (asc_some T.nonterminals 0 a A h) in
-      let s = and_split (mem (first_of T a) (below (length T.productions))) (owns T a (first_of T a)) (sym (mem-keep (owns T a) (first_of T a) (below (length T.productions))) ∙ m) in
+      let s = and-true (mem (first_of T a) (below (length T.productions))) (owns T a (first_of T a)) (sym (mem-keep (owns T a) (first_of T a) (below (length T.productions))) ∙ m) in
       (ltb-true (first_of T a) (length T.productions) (sym (mem_below (first_of T a) (length T.productions)) ∙ s.0), eqb-true (production_at T (first_of T a)).nonterminal a s.1)
 
   owner_small : (q : ℕ) → q < length T.productions → (production_at T q).nonterminal < length T.nonterminals
@@ -270,25 +270,21 @@ small_N : (a : ℕ) → a < 63 → number_of (nonterminal a) < 63
 unfolding number_of
 small_N a h = h
 
-small_T : (a : ℕ) → a < 63 → number_of (terminal a) < 63
-unfolding number_of
-small_T a h = h
-
 pub N_differ : (a b : ℕ) → a < 63 → b < 63 → same_id (N_name a) (N_name b) ≡ eqb a b
 unfolding is_same_symbol
 N_differ a b g h = names_differ (nonterminal a) (nonterminal b) (small_N a g) (small_N b h)
 
 pub T_differ : (a b : ℕ) → a < 63 → b < 63 → same_id (T_name a) (T_name b) ≡ eqb a b
 unfolding is_same_symbol
-T_differ a b g h = names_differ (terminal a) (terminal b) (small_T a g) (small_T b h)
+T_differ a b g h = names_differ (terminal a) (terminal b) (token_small a g) (token_small b h)
 
 pub N-T : (a b : ℕ) → a < 63 → b < 63 → same_id (N_name a) (T_name b) ≡ false
 unfolding is_same_symbol
-N-T a b g h = names_differ (nonterminal a) (terminal b) (small_N a g) (small_T b h)
+N-T a b g h = names_differ (nonterminal a) (terminal b) (small_N a g) (token_small b h)
 
 T-N : (a b : ℕ) → a < 63 → b < 63 → same_id (T_name a) (N_name b) ≡ false
 unfolding is_same_symbol
-T-N a b g h = names_differ (terminal a) (nonterminal b) (small_T a g) (small_N b h)
+T-N a b g h = names_differ (terminal a) (nonterminal b) (token_small a g) (small_N b h)
 
 follows_up : (k c : ℕ) → Follows c (up_from c k) (c + k)
 unfolding Follows up_from
@@ -322,7 +318,7 @@ whole_file : (n : ℕ) (p : Production) (ps : List Production) → file_bares (f
 unfolding file_bares file_of joined
 whole_file n p ps = refl
 
-table_terminals : (S : Source) → (table_of S).terminals ≡ length S.terminals
+pub table_terminals : (S : Source) → (table_of S).terminals ≡ length S.terminals
 unfolding table_of
 table_terminals S = refl
 

@@ -76,7 +76,7 @@ unfolding All
 productions_good T F [] A = tt
 productions_good T F (p ∷ ps) A = (production_good T F p A.0, productions_good T F ps A.1)
 
-token_small : (n : ℕ) → n < 63 → number_of (terminal n) < 63
+pub token_small : (n : ℕ) → n < 63 → number_of (terminal n) < 63
 unfolding number_of
 token_small n h = h
 

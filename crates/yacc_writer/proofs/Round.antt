@@ -27,7 +27,7 @@ use Rattle.yacc_read.specs.declared.Reading.{Reading}
 use Rattle.yacc_read.proofs.Fits.{Good, read_accepted, read-meaning}
 use Rattle.yacc_write.specs.Text.{ascending, pieces_of, text_of}
 use Rattle.yacc_write.specs.Outcome.{Outcome, written_of, write_of}
-use Rattle.yacc_write.proofs.Again.{nonterminals-back, terminals-back, owners_back, symbols-back, start_back, written_again}
+use Rattle.yacc_write.proofs.Again.{nonterminals-back, terminals-back, owners_back, symbols-back, start_back, written_again, table_terminals}
 use Rattle.yacc_write.proofs.Back.{chains_back}
 use Rattle.yacc_write.proofs.Reread.{reread_good, written_read}
 use Rattle.yacc_writer.specs.Round.{records_again, places_again, RoundTrip}
@@ -90,10 +90,6 @@ none_owned T O h e = O.lists 0 h ∙ ap (λ (l : List Production). keep (owns T 
 records_of_lem : (Q : Source) → records_of (table_of Q) ≡ 2 + length (table_of Q).nonterminals + length (table_of Q).productions + size_of (symbol_lists (table_of Q))
 unfolding records_of edges_at items_place symbols_at productions_at states_at size_of table_of
 records_of_lem Q = omega arith
-
-tokens-back : (Q : Source) → (table_of Q).terminals ≡ length Q.terminals
-unfolding table_of
-tokens-back Q = refl
 
 written_same : (U T : Table) (text : List ℕ) → U.nonterminals ≡ T.nonterminals → text_of U ≡ text_of T → written_of U text ≡ written_of T text
 written_same U T text a b =
@@ -183,7 +179,7 @@ module _ (t text bs : List ℕ) (n : ℕ) (table places : List ℕ) (D : Done t 
           ∙ written_read K p ps F e O A table places roomy
           ∙ ap (λ (a : Reply Reading). record { answer = a; table = in_front (spell U) table; places = in_front (places_of Q) places }) answer_is;
       accepted = read_accepted Q good;
-      terminals = ap (λ (X : Table). X.terminals) meant ∙ tokens-back Q ∙ terminals-back K p ps F e O A;
+      terminals = ap (λ (X : Table). X.terminals) meant ∙ table_terminals Q ∙ terminals-back K p ps F e O A;
       chains = ap (λ (X : Table). X.nonterminals) meant ∙ chains;
       owners = ap (λ (X : Table). map (λ q. q.nonterminal) X.productions) meant ∙ owners_back K p ps F e O A;
       symbols = ap (λ (X : Table). map (λ q. q.symbols) X.productions) meant ∙ symbols-back K p ps F e O A;

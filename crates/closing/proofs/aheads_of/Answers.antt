@@ -1,5 +1,6 @@
-use Rattle.closing.proofs.Rest.{front_sized, same_pointwise, turn_start, turn_again, turn_less}
+use Rattle.closing.proofs.Rest.{front_sized, turn_start, turn_again, turn_less}
 use Rattle.closing.proofs.aheads_of.Goals as goal
+use Rattle.slices.proofs.Same.{same_pointwise}
 
 pub loop-changed-init : goal.loop-changed-init
 loop-changed-init c = λ T G. turn_start T G.fits _ (front_sized T _ _ c.requires.flat G.packed.few G.many)

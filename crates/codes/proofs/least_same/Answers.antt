@@ -2,13 +2,14 @@ use Rattle.std.proofs.Common.{◌≡◌, true, false, arith, tests, rules}
 use Rattle.std.proofs.lemmas.Iterator.{first_from_Range}
 use Rattle.repr.specs.Packed.{productions_in}
 use Rattle.codes.specs.Codes.{is_same_production}
-use Rattle.codes.proofs.Least.{many, least_of}
+use Rattle.codes.proofs.Least.{least_of}
 use Rattle.codes.proofs.least_same.Goals as goal
+use Rattle.repr.proofs.Packed.{productions_long}
 
 pub returns : goal.returns
 returns c =
     let ps = productions_in c.args.grammar.words.now c.args.grammar.productions in
-    let m = many c.args.grammar.words.now c.args.grammar.productions in
+    let m = productions_long c.args.grammar.words.now c.args.grammar.productions in
     let h = least_of ps c.args.p c.find.result (omega (arith, m, c.requires))
     (first_from_Range _ _ _ _ (λ q. is_same_production ps q c.args.p ≡ true) (λ q. is_same_production ps q c.args.p ≡ false) c.find.ensures.ran
     (λ x q k. search (rules, tests))

@@ -1,6 +1,7 @@
 use Rattle.table.proofs.Accepted.{accepts}
-use Rattle.compaction.proofs.Joined.{sized, count_fits, follow_items_asked, follow_others_asked, closed}
+use Rattle.compaction.proofs.Joined.{count_fits, follow_items_asked, follow_others_asked, closed}
 use Rattle.compaction.proofs.close_gaps.Goals as goal
+use Rattle.spelling.proofs.Areas.{sized}
 
 pub survey-a-requires : goal.survey-a-requires
 survey-a-requires c = sized _ c.requires

@@ -1,7 +1,7 @@
 use mathlib.Core.Path.{refl, sym}
 use Rattle.enumerator.specs.Advance.{start_of}
 use Rattle.view.proofs.Made.{ranged_fits}
-use Rattle.trace_graph.proofs.Bools.{and_left}
+use Rattle.laws.proofs.Bools.{and_left}
 use Rattle.lister.proofs.Asking.{asked-none, asked_short, asked_long}
 use Rattle.lister.proofs.Ways.{few_nonterminals, read_of, roomy_of, step-refused, step_graph, step_scratch, step_buffer}
 use native.Mathlib.Omega.{arith}

@@ -1,6 +1,6 @@
 use Rattle.std.proofs.Common.{refl}
-use Rattle.lookahead.proofs.Growing.{get_d_none}
 use Rattle.kept_states.proofs.Begins.new.Goals as goal
+use Rattle.laws.proofs.Lists.{zero_at}
 
 pub returns : goal.returns
-returns c = (refl, λ k. get_d_none 129 k)
+returns c = (refl, λ k. zero_at 129 k)

@@ -1,5 +1,5 @@
-use Rattle.lookahead.proofs.Growing.{get_d_none}
 use Rattle.taking.proofs.Edges.new.Goals as goal
+use Rattle.laws.proofs.Lists.{zero_at}
 
 pub returns : goal.returns
-returns c = (c.new.ensures, λ k. get_d_none 129 k)
+returns c = (c.new.ensures, λ k. zero_at 129 k)

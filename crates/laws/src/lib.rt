@@ -1,0 +1,3 @@
+// Laws of tests and of lists of numbers that the proofs of many crates cite.
+
+#![tactic(auto)]
