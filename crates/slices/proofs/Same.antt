@@ -5,7 +5,7 @@ use mathlib.Core.List.{List, [], ◌∷◌, ◌++◌}
 use Prim.Native.Nat.{ℕ}
 use lib.Dec.{eqb}
 use borrow.Author.Tests.{eqb-true, eq-eqb}
-use Rattle.std.proofs.Common.{pointwise}
+use lib.Pointwise.{pointwise}
 use Rattle.slices.specs.Same.{same_words}
 
 pub same_words_eq : (p q : List ℕ) → same_words p q ≡ true → p ≡ q
