@@ -7,14 +7,15 @@ use Rattle.repr.specs.Lists.{some?}
 use Rattle.repr.specs.Meaning.{Production, Table, TableFits, All}
 use Rattle.repr.proofs.Lists.{cases}
 use Rattle.repr.proofs.Tests.{some?-nil, some?-cons, some?-append}
-use Rattle.trace_graph.specs.Graph.{TraceEdge, is_same_edge, add}
+use Rattle.trace_graph.specs.Graph.{TraceEdge, is_same_edge, add, no_edge}
 use Rattle.trace.proofs.Once.{add_there, add_new, add-all}
 use Rattle.trace.specs.Sound.{EdgeSound}
 use Rattle.bits.specs.Bits.{bit_at, bit_put}
 use Rattle.bits.proofs.Laws.{zeros_none, put-length, put_here, put_other}
-use Rattle.codes.specs.Codes.{item_code, code_of, key_by, key_of}
-use Rattle.codes.specs.Coded.{no_edge, Coded, Leasts}
+use Rattle.codes.specs.Codes.{code_of, key_by, key_of}
+use Rattle.codes.specs.Coded.{Coded, Leasts}
 use Rattle.codes.proofs.Keys.{same_key, key_one, key-other}
+use Rattle.lr1_core.specs.Places.{item_place}
 
 module _ (T : Table) (fits : TableFits T) where
   -- an equal edge is there exactly if the key's flag is set
@@ -118,5 +119,5 @@ pub key-least : (ps : List Production) (ls : List ℕ) (p x : ℕ) → Leasts ps
 key-least ps ls p x L h = rw (L.exact p h) (sym (key_one ps (record { production = p; index = x })))
 
 pub key_itself : (ps : List Production) (k p x : ℕ) → (k ≡ 1 → ⊥) → k * 2176 + (p * 17 + x) ≡ key_by ps k (record { production = p; index = x })
-unfolding item_code
+unfolding item_place
 key_itself ps k p x ne = sym (key-other ps k (record { production = p; index = x }) ne)

@@ -13,8 +13,9 @@ use Rattle.trace_graph.proofs.Labels.{symbols_equal, symbols_refl, sets_refl, la
 use Rattle.trace.specs.Traced.{owner_of, symbols_of, can_shift}
 use Rattle.trace.specs.Sound.{owner_of_node, apart_ends, EdgeSound}
 use Rattle.trace.proofs.Traced.{fits-item}
-use Rattle.codes.specs.Codes.{kind_of, item_code, code_of, number_of, cursor_of, edge_by, item_in, edge_of, is_same_production, least_alike, key_by, key_of}
+use Rattle.codes.specs.Codes.{kind_of, code_of, number_of, cursor_of, edge_by, item_in, edge_of, is_same_production, least_alike, key_by, key_of}
 use Rattle.laws.proofs.Bools.{agree, and-true}
+use Rattle.lr1_core.specs.Places.{item_place}
 
 -- the nonterminal that an item can shift is the one at its cursor
 shift_number : (x : Option Symbol) (n : ℕ) → is_nonterminal n x ≡ true → n ≡ number_of x
@@ -66,8 +67,8 @@ module _ (T : Table) where
         let x = h.index in
         (omega arith, omega arith)
 
-  in_word : (k : ℕ) (i : Item) → i.production < 128 → i.index < 17 → ((k * 2176 + item_code i) / 2176 ≡ k) × (item_in (k * 2176 + item_code i) ≡ i)
-  unfolding item_code item_in
+  in_word : (k : ℕ) (i : Item) → i.production < 128 → i.index < 17 → ((k * 2176 + item_place i) / 2176 ≡ k) × (item_in (k * 2176 + item_place i) ≡ i)
+  unfolding item_place item_in
   in_word k i p x =
       let a : (k * 2176 + (i.production * 17 + i.index)) / 2176 ≡ k = omega arith in
       let m : (k * 2176 + (i.production * 17 + i.index)) % 2176 ≡ i.production * 17 + i.index = omega arith in
@@ -81,7 +82,7 @@ module _ (T : Table) where
 
     -- a word of three times 2,176
     pub code_few : code_of e < 6528
-    unfolding code_of item_code
+    unfolding code_of item_place
     code_few = let s = small in let k = kind_few e.source e.target in omega (arith, s.0, s.1)
 
     pub code_edge : edge_of T (code_of e) ≡ e
@@ -154,7 +155,7 @@ pub key_one : (ps : List Production) (i : Item) → key_by ps 1 i ≡ 2176 + (le
 unfolding key_by
 key_one ps i = refl
 
-pub key-other : (ps : List Production) (k : ℕ) (i : Item) → (k ≡ 1 → ⊥) → key_by ps k i ≡ k * 2176 + item_code i
+pub key-other : (ps : List Production) (k : ℕ) (i : Item) → (k ≡ 1 → ⊥) → key_by ps k i ≡ k * 2176 + item_place i
 unfolding key_by
 key-other ps k i ne = rw (ne_eqb k 1 ne, key_by)
 
@@ -179,7 +180,7 @@ module _ (T : Table) (fits : TableFits T) where
   -- equal keys have equal kinds, and then equal labels or equal productions
   module _ (i j : Item) (hi : ItemFits T i) (hj : ItemFits T j) where
     rest : (k : ℕ) (l : Item) → ItemFits T l → (r : ℕ) × (r < 2176) × (key_by T.productions k l ≡ k * 2176 + r)
-    unfolding item_code
+    unfolding item_place
     rest k l h =
         let s = label_small T fits l h in
         let a = s.0 in
@@ -188,7 +189,7 @@ module _ (T : Table) (fits : TableFits T) where
         let c = least_few T.productions l.production h.production in
         cases (eqb k 1)
         (λ q. let e = eqb-true k 1 q in (least_alike T.productions l.production * 17 + l.index, omega arith, rw e (key_one T.productions l ∙ omega arith)))
-        (λ q. (item_code l, omega arith, key-other T.productions k l (eqb-false k 1 q)))
+        (λ q. (item_place l, omega arith, key-other T.productions k l (eqb-false k 1 q)))
 
     kinds : (k m : ℕ) → key_by T.productions k i ≡ key_by T.productions m j → k ≡ m
     kinds k m e =

@@ -6,9 +6,10 @@ use Rattle.trace.specs.Sound.{EdgeSound}
 use Rattle.codes.specs.declared.EdgeCode.{EdgeCode}
 use Rattle.codes.specs.declared.EdgeKind.{EdgeKind}
 use Rattle.codes.specs.declared.EdgeKind.TheVariants.{IntoItem, FromItem}
-use Rattle.codes.specs.Codes.{item_code, code_of, key_by, key_of}
+use Rattle.codes.specs.Codes.{code_of, key_by, key_of}
 use Rattle.codes.specs.Kinds.{kind_number, IsCodeOf}
 use Rattle.codes.proofs.Keys.{key_edge}
+use Rattle.lr1_core.specs.Places.{item_place}
 
 -- a kind that is not the one between nonterminals
 pub not_between : (k : EdgeKind) → (k ≡ IntoItem) ⊎ (k ≡ FromItem) → kind_number k ≡ 1 → ⊥
@@ -20,7 +21,7 @@ pub number_is : (k j : EdgeKind) (n : ℕ) → kind_number k ≡ n → k ≡ j �
 number_is k j n a e = sym a ∙ ap kind_number e
 
 module _ (c : EdgeCode) (e : TraceEdge) (I : IsCodeOf c e) where
-  pub word_is : kind_number c.kind * 2176 + item_code (record { production = c.item.production; index = c.item.index }) ≡ code_of e
+  pub word_is : kind_number c.kind * 2176 + item_place (record { production = c.item.production; index = c.item.index }) ≡ code_of e
   unfolding code_of
   word_is = rw (I.kind, I.label) refl
 

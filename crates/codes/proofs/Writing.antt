@@ -4,7 +4,7 @@ use lib.Seq.{take-length}
 use Rattle.repr.specs.Lists.{joined}
 use Rattle.repr.specs.Meaning.{Table}
 use Rattle.repr.proofs.Tests.{All_at}
-use Rattle.trace_graph.specs.Graph.{TraceEdge}
+use Rattle.trace_graph.specs.Graph.{TraceEdge, no_edge}
 use Rattle.trace_graph.specs.Words.{edge_words, graph_words}
 use Rattle.trace_graph.specs.Values.{written, value_words}
 use Rattle.trace_graph.specs.Insert.{with_one_more}
@@ -12,7 +12,6 @@ use Rattle.trace_graph.specs.declared.TraceEdge.{TraceEdge as EdgeValue}
 use Rattle.trace_graph.proofs.Words.{written_long}
 use Rattle.trace_graph.proofs.Front.{more-front}
 use Rattle.trace.specs.Sound.{EdgeSound}
-use Rattle.codes.specs.Coded.{no_edge}
 use Rattle.codes.specs.Carried.{Decodes, Carried}
 
 -- the first k edges are written, over the words gr₀

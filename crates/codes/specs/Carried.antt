@@ -3,10 +3,10 @@ use Rattle.std.specs.Prelude.{◌≡◌, ℕ, ◌+◌, ◌<◌, ◌≤◌, List,
 use Rattle.repr.specs.Sizes.{edge_limit}
 use Rattle.repr.specs.Meaning.{Table, TableFits, All}
 use Rattle.repr.specs.Packed.{Packed, productions_in}
-use Rattle.trace_graph.specs.Graph.{TraceEdge}
+use Rattle.trace_graph.specs.Graph.{TraceEdge, no_edge}
 use Rattle.trace.specs.Sound.{EdgeSound}
 use Rattle.codes.specs.Codes.{code_of}
-use Rattle.codes.specs.Coded.{codes_room, no_edge}
+use Rattle.codes.specs.Coded.{codes_room}
 
 -- c is the word of the edge e of a trace over T, whose n productions are packed in g
 pub record Decodes (g : List ℕ) (n : ℕ) (T : Table) (e : TraceEdge) (c : ℕ) : Type 0 where

@@ -3,7 +3,7 @@ use Rattle.std.specs.Prelude.{◌≡◌, ℕ, ◌+◌, ◌<◌, ◌≤◌, List,
 use Rattle.repr.specs.Sizes.{production_limit, edge_limit}
 use Rattle.repr.specs.Lists.{some?}
 use Rattle.repr.specs.Meaning.{Production, Table, All}
-use Rattle.trace_graph.specs.Graph.{at_nonterminal, TraceEdge}
+use Rattle.trace_graph.specs.Graph.{at_nonterminal, TraceEdge, no_edge}
 use Rattle.trace.specs.Sound.{EdgeSound}
 use Rattle.bits.specs.Bits.{bit_at}
 use Rattle.codes.specs.Codes.{code_limit, code_of, least_alike, key_of}
@@ -14,9 +14,6 @@ codes_room = 1 + edge_limit
 
 abbrev pub key_words : ℕ
 key_words = 102
-
-abbrev pub no_edge : TraceEdge
-no_edge = record { source = at_nonterminal 0; target = at_nonterminal 0; label = record { production = 0; index = 0 } }
 
 pub record Coded (T : Table) (ws fs : List ℕ) (es : List TraceEdge) : Type 0 where
   pub long : length ws ≡ codes_room

@@ -9,6 +9,7 @@ use Rattle.lr1_core.specs.Items.{symbol_sets}
 use Rattle.table.specs.Decoded.{or_zero}
 use Rattle.trace_graph.specs.Graph.{Node, at_nonterminal, at_item, TraceEdge, same_symbols}
 use Rattle.trace.specs.Traced.{owner_of, symbols_of}
+use Rattle.lr1_core.specs.Places.{item_place}
 
 -- three kinds of each item
 abbrev pub code_limit : ℕ
@@ -19,11 +20,8 @@ kind_of (at_nonterminal n) (at_item j) = 0
 kind_of (at_nonterminal n) (at_nonterminal m) = 1
 kind_of (at_item i) w = 2
 
-unfoldable pub item_code : Item → ℕ
-item_code i = i.production * index_limit + i.index
-
 unfoldable pub code_of : TraceEdge → ℕ
-code_of e = kind_of e.source e.target * item_limit + item_code e.label
+code_of e = kind_of e.source e.target * item_limit + item_place e.label
 
 -- the number of a nonterminal at the cursor
 unfoldable pub number_of : Option Symbol → ℕ
@@ -56,7 +54,7 @@ least_alike ps p = or_zero (first? (λ q. is_same_production ps q p) (below (len
 
 -- what is equal for equal edges alone (`same_key` of proofs/Keys)
 unfoldable pub key_by : List Production → ℕ → Item → ℕ
-key_by ps k i = k * item_limit + elim (k == 1) [ true ↦ least_alike ps i.production * index_limit + i.index | false ↦ item_code i ]
+key_by ps k i = k * item_limit + elim (k == 1) [ true ↦ least_alike ps i.production * index_limit + i.index | false ↦ item_place i ]
 
 unfoldable pub key_of : List Production → ℕ → ℕ
 key_of ps c = key_by ps (c / item_limit) (item_in c)

@@ -14,10 +14,11 @@ ghost use Rattle.trace_graph.specs.Words.{edge_words, graph_words};
 ghost use Rattle.trace_graph.specs.Values.{SmallEdge, value_words};
 ghost use Rattle.trace.specs.Sound.{EdgeSound};
 ghost use Rattle.bits.specs.Bits.{bit_at};
-ghost use Rattle.codes.specs.Codes.{code_limit, item_code, code_of, is_same_production, least_alike, key_by, key_of};
+ghost use Rattle.codes.specs.Codes.{code_limit, code_of, is_same_production, least_alike, key_by, key_of};
 ghost use Rattle.codes.specs.Kinds.{kind_number, IsCodeOf};
 ghost use Rattle.codes.specs.Coded.{codes_room, key_words, Coded, Leasts, SmallLeasts};
 ghost use Rattle.codes.specs.Carried.{Decodes, Carried};
+ghost use Rattle.lr1_core.specs.Places.{item_place};
 
 use bits::{is_set, put};
 use lr1_core::Item;
@@ -69,7 +70,7 @@ impl EdgeCode {
     // Its word.
     pub fn word(self) -> usize
         requires { (self.item.production < production_limit) × (self.item.index < index_limit) }
-        ensures { (result ≡ kind_number self.kind * item_limit + item_code (record { production = self.item.production; index = self.item.index })) × (result < code_limit) }
+        ensures { (result ≡ kind_number self.kind * item_limit + item_place (record { production = self.item.production; index = self.item.index })) × (result < code_limit) }
     {
         self.kind.number() * Item::LIMIT + self.item.place()
     }

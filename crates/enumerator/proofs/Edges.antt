@@ -5,10 +5,10 @@ use Rattle.repr.specs.Lists.{below, every?}
 use Rattle.repr.specs.Meaning.{Production}
 use Rattle.repr.proofs.Lists.{length-map-below, get_d_map-below}
 use Rattle.repr.proofs.Tests.{every?_below}
-use Rattle.trace_graph.specs.Graph.{at_nonterminal, TraceEdge}
+use Rattle.trace_graph.specs.Graph.{at_nonterminal, TraceEdge, no_edge}
 use Rattle.trace_graph.specs.Words.{node_of, node_at, edge_at, edges_in}
 use Rattle.trace_graph.specs.Fits.{node_fits, edge_is_fit, once, graph_fits}
-use Rattle.enumerator.specs.Trials.{no_edge, ends_of, Small}
+use Rattle.enumerator.specs.Trials.{ends_of, Small}
 use Rattle.laws.proofs.Bools.{and_left, and_right}
 use Rattle.trace_graph.proofs.Front.{edges_long}
 

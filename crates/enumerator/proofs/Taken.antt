@@ -6,10 +6,9 @@ use Rattle.repr.specs.Lists.{below, every?}
 use Rattle.repr.specs.Meaning.{Production, Item, Table}
 use Rattle.repr.proofs.Lists.{cases, length-map-below, get_d_map-below}
 use Rattle.repr.proofs.Tests.{every?_below_intro}
-use Rattle.trace_graph.specs.Graph.{TraceEdge}
+use Rattle.trace_graph.specs.Graph.{TraceEdge, no_edge}
 use Rattle.trace_graph.specs.Words.{node_at, edge_at, edges_in}
 use Rattle.trace_graph.specs.Fits.{item_is_fit, edge_is_fit, once, graph_fits}
-use Rattle.enumerator.specs.Trials.{no_edge}
 use Rattle.enumerator.specs.Advance.{ahead_fits, lent_graph_fits, asked}
 use Rattle.laws.proofs.Bools.{both, and_left, and_right}
 use Rattle.enumerator.proofs.Edges.{few_edges, edge_fits, no_edge-twice}

@@ -4,9 +4,9 @@ use Rattle.std.proofs.Math.Option.{Option, none, some}
 use Rattle.repr.specs.Sizes.{graph_room, scratch_words, trial_limit, example_room}
 use Rattle.repr.specs.Meaning.{Item, Table, Production, no_production}
 use Rattle.first.specs.First.{sets_of_first}
-use Rattle.trace_graph.specs.Graph.{Node, at_nonterminal, at_item, TraceEdge}
+use Rattle.trace_graph.specs.Graph.{Node, at_nonterminal, at_item, TraceEdge, no_edge}
 use Rattle.example.specs.Example.{Label, example_words, meets}
-use Rattle.enumerator.specs.Trials.{Path, no_edge, ends_of, trials, is_example_in}
+use Rattle.enumerator.specs.Trials.{Path, ends_of, trials, is_example_in}
 
 -- the lengths that a call is lent; what refusal 11 asks
 pub record Call : Type 0 where

@@ -4,16 +4,13 @@ use Rattle.std.specs.Prelude.{◌≡◌, ℕ, zero, suc, ◌+◌, ◌<◌, Bool,
 use mathlib.Core.List.{Memᴰ}
 use Rattle.repr.specs.Sizes.{nonterminal_limit}
 use Rattle.repr.specs.Lists.{mem}
-use Rattle.trace_graph.specs.Graph.{Node, at_nonterminal, at_item, is_same_node, TraceEdge}
+use Rattle.trace_graph.specs.Graph.{Node, at_nonterminal, at_item, is_same_node, TraceEdge, no_edge}
 
 -- what a listing asks of a graph: how many edges, and each edge's ends by its number
 pub record Ends : Type 0 where
   pub count : ℕ
   pub source : ℕ → Node
   pub target : ℕ → Node
-
-abbrev pub no_edge : TraceEdge
-no_edge = record { source = at_nonterminal 0; target = at_nonterminal 0; label = record { production = 0; index = 0 } }
 
 abbrev pub ends_of : List TraceEdge → Ends
 ends_of es = record { count = length es; source = λ k. (slice_index_or es k no_edge).source; target = λ k. (slice_index_or es k no_edge).target }

@@ -10,8 +10,9 @@ use Rattle.first.specs.First.{disjoint, FIRST, nullable}
 use Rattle.example.specs.Example.{ExampleSymbol, symbol, epsilon}
 use Rattle.error.specs.declared.Class.TheVariants.{Ambiguity, Precedence, AmbiguousReduction}
 use Rattle.error.specs.Sorted.{Pair}
-use Rattle.error.specs.Judge.{Example, with_both, reduction_at, same_symbols, is_operator_of, ambiguity_of_shift, ambiguity_of_reduce, ambiguity_of, diverge}
+use Rattle.error.specs.Judge.{Example, with_both, reduction_at, is_operator_of, ambiguity_of_shift, ambiguity_of_reduce, ambiguity_of, diverge}
 use Rattle.trace_graph.proofs.Labels.{symbols_equal, symbols_refl}
+use Rattle.trace_graph.specs.Graph.{same_symbols}
 
 -- two lists of symbols are the same if the test says so, and only then
 

@@ -17,7 +17,7 @@ use Rattle.table.specs.TableB.{table_b}
 use Rattle.first.specs.declared.Answer.{Answer}
 use Rattle.first.specs.First.{join, first_of, marked_at_end, unmarked, first0, meets_ahead, disjoint, grown, round, settle, sets_of_first, FIRST, nullable}
 use Rattle.state_graph.specs.Walk.{leads, predecessors, walked_back, traced_back}
-use Rattle.trace_graph.specs.Graph.{at_item, same_item, is_same_node, TraceEdge, label_of, same_symbols as alike, same_cursor, same_sets, is_same_edge, add, is_node_of}
+use Rattle.trace_graph.specs.Graph.{at_item, same_item, is_same_node, TraceEdge, label_of, same_symbols as alike, same_cursor, same_sets, is_same_edge, add, is_node_of, same_symbols}
 use Rattle.trace_graph.specs.Words.{node_words, edge_words, graph_words, node_of, node_at, edge_at as lent_edge, edges_in}
 use Rattle.trace_graph.specs.Fits.{item_is_fit, node_fits, edge_is_fit, once, graph_fits}
 use Rattle.trace.specs.Traced.{untraced, pair, enter, add_to, owner_of, symbols_of, can_shift, prefix_of, suffix_of, in_turn}
@@ -31,7 +31,7 @@ use Rattle.error.specs.Numbers.{number_of_class, values_of_class, Reading, class
 use Rattle.error.specs.Items.{symbol_before, are_symbols_before, is_production_before, placed, in_order, production_order, cursor_items, all_items, is_terminal, shifts_token, shift_items}
 use Rattle.error.specs.Sides.{listing_side, with_more, examples_in, shift_side_from, shift_side, item_of_reduce as item_at_end, reduce_side, action_side_of, both_sides, gather}
 use Rattle.error.specs.Sorted.{inserted, sorted_from, sorted_by, product, first_fit}
-use Rattle.error.specs.Judge.{with_both, symbol_count, cursor_at, reduction_at, same_example_symbol, same_example_symbols, is_same_reading, same_symbols, is_operator_of, ambiguity_of_shift, ambiguity_of_reduce, ambiguity_of, optional, optional_of, question_of, suggest_question, between, shift_upcoming, reduce_upcoming, diverge, inlines, inline_or, question_or, unambiguous, ambiguous_or, judge, judged}
+use Rattle.error.specs.Judge.{with_both, symbol_count, cursor_at, reduction_at, same_example_symbol, same_example_symbols, is_same_reading, is_operator_of, ambiguity_of_shift, ambiguity_of_reduce, ambiguity_of, optional, optional_of, question_of, suggest_question, between, shift_upcoming, reduce_upcoming, diverge, inlines, inline_or, question_or, unambiguous, ambiguous_or, judge, judged}
 use Rattle.error.specs.Outcome.{Outcome, outcome, operand_fits, place_is_fit, conflict_fits, shifts_end, shown, judged_with, gathered_with, classify_in_with, classify_by_with, classify_of, classify_with}
 use Rattle.error.specs.Observed.{is_whole_example, before_cursor, observed_of}
 

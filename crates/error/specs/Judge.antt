@@ -8,6 +8,7 @@ use Rattle.error.specs.declared.Conflict.{Conflict}
 use Rattle.error.specs.declared.Class.{Class}
 use Rattle.error.specs.declared.Class.TheVariants.{Naive, Ambiguity, Precedence, SuggestInline, SuggestQuestion, AmbiguousReduction, InsufficientLookahead}
 use Rattle.error.specs.Sorted.{sorted_by, Pair, first_fit}
+use Rattle.trace_graph.specs.Graph.{same_symbols}
 
 -- an example is its labels, innermost first
 abbrev pub Example : Type 0
@@ -49,12 +50,6 @@ same_example_symbols (x ∷ xs) (y ∷ ys) = same_example_symbol x y && same_exa
 -- `try_classify_ambiguity`: the same symbols and the same cursor
 unfoldable pub is_same_reading : List Production → Example → Example → Bool
 is_same_reading ps a r = same_example_symbols (symbols ps a) (symbols ps r) && cursor_at ps a == cursor_at ps r
-
-unfoldable pub same_symbols : List Symbol → List Symbol → Bool
-same_symbols [] [] = true
-same_symbols [] (y ∷ ys) = false
-same_symbols (x ∷ xs) [] = false
-same_symbols (x ∷ xs) (y ∷ ys) = is_same_symbol x y && same_symbols xs ys
 
 -- the reduce is of `T = T S T` and the shift is of S; the terminal of the action is tested, not the token
 unfoldable pub is_operator_of : Production → ℕ → Bool

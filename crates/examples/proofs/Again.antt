@@ -10,7 +10,6 @@ use Rattle.slices.specs.Lent.{in_front}
 use Rattle.table.specs.Decoded.{meaning}
 use Rattle.trace_graph.specs.Graph.{TraceEdge}
 use Rattle.trace_graph.specs.Fits.{item_is_fit}
-use Rattle.trace.specs.Shifting.{item_of}
 use Rattle.trace.proofs.Traced.{item_fits}
 use Rattle.tracer.specs.declared.Action.TheVariants.{Shift}
 use Rattle.tracer.specs.Built.{edges_by}
@@ -30,6 +29,7 @@ use Rattle.examples.specs.Again.{Listed, Finds}
 use Rattle.examples.specs.Gathers.{shift_made, reduce_made, made_by, action_made, is_shift}
 use Rattle.examples.proofs.Traces.{listing-over, listing_is}
 use Rattle.examples.proofs.Seeking.{not_stopped}
+use Rattle.lr1_core.specs.Places.{item_at_place}
 
 listed_by_lem : {listing other : Side} (k : ℕ) (x : Example) → other ≡ listing → Listed listing k x → Listed other k x
 listed_by_lem k x e L = record { examples = L.examples; trials = L.trials; is = e ∙ L.is; inside = L.inside; there = L.there }
@@ -99,7 +99,7 @@ module _ (T : Table) (c : Conflict) (label wanted : ℕ) (b b' : List ℕ) where
       → Listed (listing_side T (edges_by Shift T c.state.0 (record { production = label / index_limit; index = label % index_limit })) (record { production = label / index_limit; index = label % index_limit }) (set_of None) k) wanted x
       → b' ≡ in_front (example_words T.productions x) b)
       → (x : Example) → action_made T c label wanted x → b' ≡ in_front (example_words T.productions x) b
-  unfolding set_of item_of shift_made action_made
+  unfolding set_of item_at_place shift_made action_made
   action_shift e A x M =
       let S = made_shift T c.state.0 c.action c.operand c.token label wanted x e M in
       A S.before x S.few S.listed

@@ -9,7 +9,7 @@ use Rattle.repr.specs.Lists.{keep}
 use Rattle.repr.specs.Meaning.{Production, no_production, Item, Table, TableFits, ProductionFits, All, production_at}
 use Rattle.repr.proofs.Lists.{cases, length_mapped}
 use Rattle.repr.proofs.Tests.{All_at}
-use Rattle.trace_graph.specs.Graph.{Node, at_nonterminal, at_item, TraceEdge}
+use Rattle.trace_graph.specs.Graph.{Node, at_nonterminal, at_item, TraceEdge, no_edge}
 use Rattle.trace_graph.specs.Fits.{item_is_fit}
 use Rattle.trace_graph.proofs.Fits.{item-parts}
 use Rattle.trace.specs.Traced.{owner_of}
@@ -20,7 +20,7 @@ use Rattle.tracer.specs.declared.Action.TheVariants.{Shift, Reduce}
 use Rattle.tracer.specs.Built.{edges_by}
 use Rattle.example.specs.Labels.{LabelFits}
 use Rattle.enumerator.specs.Stacks.{Within}
-use Rattle.enumerator.specs.Trials.{Path, no_edge, ends_of, TrialFrom, trials}
+use Rattle.enumerator.specs.Trials.{Path, ends_of, TrialFrom, trials}
 use Rattle.enumerator.specs.Lister.{hands, owner_of_node, label_at, labels_of}
 use Rattle.enumerator.proofs.Exact.{sound}
 use Rattle.enumerator.proofs.Short.{short_trial}

@@ -14,7 +14,6 @@ use Rattle.trace_graph.specs.Graph.{same_item}
 use Rattle.trace_graph.specs.Fits.{item_is_fit}
 use Rattle.laws.proofs.Bools.{and_left, and_right}
 use Rattle.trace.specs.Shift.{shift_edges}
-use Rattle.trace.specs.Shifting.{item_of}
 use Rattle.trace.proofs.Traced.{item_fits}
 use Rattle.tracer.specs.declared.Action.TheVariants.{Shift}
 use Rattle.tracer.specs.Built.{edges_by}
@@ -33,6 +32,7 @@ use Rattle.repr.specs.Reply.{number_of}
 use Rattle.examples.specs.Gathers.{Stops, ListedBehind, ListedOn, TrialsIn, shift_made, SideKept, Sided}
 use Rattle.examples.proofs.Sides.{none_kept, shift_kept}
 use Rattle.trace_graph.proofs.Labels.{item_equal}
+use Rattle.lr1_core.specs.Places.{item_at_place}
 
 -- the items that are left of a state's
 pub record Turn (T : Table) (s token : ℕ) (kept prints : List ℕ) (total trials : ℕ) (left : List Item) : Type 0 where
@@ -169,7 +169,7 @@ module _ (T : Table) (F : TableFits T) (s token : ℕ) (hs : s < length T.states
     unfolding ListedOn
     behind g er = rw er at answer
 
-    code_is : item_of (p * index_limit + x) ≡ i
+    code_is : item_at_place (p * index_limit + x) ≡ i
     code_is = code-item i (code_small T F i of_state).0
 
     pub turn_more : (g : Gathered) → r ≡ Ok g → TrialsIn trial_limit r → Room kept' prints' → Turn T s token kept' prints' g.examples (trials + g.trials) rest

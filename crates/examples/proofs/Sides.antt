@@ -12,7 +12,6 @@ use Rattle.repr.specs.Meaning.{Table, TableFits, production_at}
 use Rattle.repr.proofs.Lists.{cases}
 use Rattle.lookahead.specs.Tokens.{single}
 use Rattle.trace_graph.specs.Fits.{item_is_fit}
-use Rattle.trace.specs.Shifting.{item_of}
 use Rattle.tracer.specs.declared.Action.TheVariants.{Shift, Reduce}
 use Rattle.tracer.specs.Built.{edges_by}
 use Rattle.error.specs.Judge.{Example}
@@ -24,6 +23,7 @@ use Rattle.examples.specs.declared.Gathered.{Gathered}
 use Rattle.repr.specs.declared.refusals.Refusal.{Refusal}
 use Rattle.examples.specs.Gathers.{Behind, ListedOn, shift_made, reduce_made, ExampleFits, SideKept, Sided}
 use Rattle.examples.proofs.Listed.{listed-fits, listed-first, listed-shifts}
+use Rattle.lr1_core.specs.Places.{item_at_place}
 
 -- none yet
 pub none_kept : (T : Table) (shift : Bool) (made : ℕ → ℕ → Example → Type 0) (kept prints : List ℕ) → Room kept prints → SideKept T shift made [] kept prints
@@ -60,16 +60,16 @@ each_of P xs ys total m f g k h =
 
 -- the listing of the shift item with the code c behind the examples xs
 
-module _ (T : Table) (F : TableFits T) (s c : ℕ) (f : item_is_fit T.productions (item_of c).production (item_of c).index ≡ true) (i : (item_of c).index < length (production_at T (item_of c).production).symbols)
+module _ (T : Table) (F : TableFits T) (s c : ℕ) (f : item_is_fit T.productions (item_at_place c).production (item_at_place c).index ≡ true) (i : (item_at_place c).index < length (production_at T (item_at_place c).production).symbols)
     (xs ys : List Example) (total n m : ℕ) (many : length xs ≡ total) (kept prints kept' prints' : List ℕ) (K : SideKept T true (shift_made T s) xs kept prints) (R : Room kept' prints')
-    (B : Behind T.productions true total n ys kept prints kept' prints') (L : listing_side T (edges_by Shift T s (item_of c)) (item_of c) none total ≡ gathered ys m) where
-  code-back : (item_of c).production * index_limit + (item_of c).index ≡ c
-  unfolding item_of
+    (B : Behind T.productions true total n ys kept prints kept' prints') (L : listing_side T (edges_by Shift T s (item_at_place c)) (item_at_place c) none total ≡ gathered ys m) where
+  code-back : (item_at_place c).production * index_limit + (item_at_place c).index ≡ c
+  unfolding item_at_place
   code-back = omega arith
 
   label_is : (j : ℕ) → j < length ys → (outline_from T.productions true (nth ys j)).label ≡ c
   unfolding outline_from
-  label_is j h = listed-first T F Shift s (item_of c) f none total m ys L j h ∙ code-back
+  label_is j h = listed-first T F Shift s (item_at_place c) f none total m ys L j h ∙ code-back
 
   made_here : (j : ℕ) → j < length ys → shift_made T s c j (nth ys j)
   unfolding shift_made
@@ -91,8 +91,8 @@ module _ (T : Table) (F : TableFits T) (s c : ℕ) (f : item_is_fit T.production
     labels =
         each_of (λ k x. k < labelled_limit → KeptLabels T.productions kept' k x) xs ys total many
         (λ k h l. B.same_labels k (omega arith) l (nth xs k) (K.labels k h l)) B.new_labels;
-    fits = each_of (λ k x. ExampleFits T.productions x) xs ys total many K.fits (λ j h. listed-fits T F Shift s (item_of c) f none total m ys L j h);
-    shifts = λ e. each_of (λ k x. Shifts T.productions x) xs ys total many (K.shifts e) (λ j h. listed-shifts T F Shift s (item_of c) f none total m ys L j h i);
+    fits = each_of (λ k x. ExampleFits T.productions x) xs ys total many K.fits (λ j h. listed-fits T F Shift s (item_at_place c) f none total m ys L j h);
+    shifts = λ e. each_of (λ k x. Shifts T.productions x) xs ys total many (K.shifts e) (λ j h. listed-shifts T F Shift s (item_at_place c) f none total m ys L j h i);
   }
 
 -- a reduce's side

@@ -5,7 +5,7 @@ use Rattle.repr.specs.Sizes.{nonterminal_limit, edge_limit, production_room}
 use Rattle.repr.specs.Meaning.{Item, Production, no_production, Table}
 use Rattle.repr.proofs.Lists.{cases}
 use Rattle.trace_graph.specs.declared.TraceEdge.{TraceEdge as EdgeValue}
-use Rattle.trace_graph.specs.Graph.{Node, at_nonterminal, at_item, TraceEdge}
+use Rattle.trace_graph.specs.Graph.{Node, at_nonterminal, at_item, TraceEdge, no_edge}
 use Rattle.trace_graph.specs.Words.{edge_words}
 use Rattle.trace_graph.specs.Values.{node_is, edge_is, value_words}
 use Rattle.trace_graph.specs.Index.{InRange}
@@ -21,7 +21,6 @@ use Rattle.enumerator.proofs.Stepping.{value_nonterminal}
 use Rattle.view.specs.View.{latest_room, slot_of, source_of, Viewed, View, label_in, Labelled}
 use Rattle.view.proofs.Made.{viewed_first, viewed_more}
 use Rattle.codes.specs.Codes.{item_in}
-use Rattle.codes.specs.Coded.{no_edge}
 use Rattle.codes.specs.Carried.{Decodes, Carried}
 use Rattle.codes.proofs.Decoded.{label_is}
 use Rattle.codes.proofs.Writing.{decodes}

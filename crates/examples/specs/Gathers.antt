@@ -7,7 +7,6 @@ use Rattle.repr.specs.Reply.{number_of, place_of}
 use Rattle.repr.specs.Meaning.{Production, Table, All}
 use Rattle.lookahead.specs.declared.TokenSet.{TokenSet}
 use Rattle.trace.specs.Shift.{shift_edges}
-use Rattle.trace.specs.Shifting.{item_of}
 use Rattle.example.specs.Labels.{LabelFits}
 use Rattle.enumerator.specs.Advance.{set_of}
 use Rattle.error.specs.declared.Conflict.{Conflict}
@@ -22,6 +21,7 @@ use Rattle.tracer.specs.declared.Action.{Action}
 use Rattle.tracer.specs.declared.Action.TheVariants.{Shift, Reduce}
 use Rattle.examples.specs.declared.Gathered.{Gathered}
 use Rattle.examples.specs.Again.{Listed}
+use Rattle.lr1_core.specs.Places.{item_at_place}
 
 -- example x put as number k of its side, number `turn` of its listing: its outline, and its labels where they are kept; nothing changes of the others
 pub record PutBehind (ps : List Production) (shift : Bool) (x : Example) (turn k : ℕ) (kept prints kept' prints' : List ℕ) : Type 0 where
@@ -79,7 +79,7 @@ pub record Made (listing : ℕ → Side) (k : ℕ) (x : Example) : Type 0 where
 
 -- of a shift the label is the item; of a reduce the item is the production at its end
 unfoldable pub shift_made : Table → ℕ → ℕ → ℕ → Example → Type 0
-shift_made T s label k x = Made (λ n. listing_side T (shift_edges T s (item_of label)) (item_of label) none n) k x
+shift_made T s label k x = Made (λ n. listing_side T (shift_edges T s (item_at_place label)) (item_at_place label) none n) k x
 
 unfoldable pub reduce_made : Table → ℕ → ℕ → ℕ → ℕ → ℕ → Example → Type 0
 reduce_made T s p token label k x = Listed (reduce_side T s p token) k x

@@ -31,13 +31,14 @@ use Rattle.table.specs.Refusals.{check_of}
 use Rattle.error.specs.declared.Class.{Class}
 use Rattle.error.specs.declared.Class.TheVariants.{Ambiguity, Precedence, SuggestQuestion, AmbiguousReduction}
 use Rattle.error.specs.Sorted.{Pair}
-use Rattle.error.specs.Judge.{Example, Judged, with_both, reduction_at, same_symbols, is_operator_of, ambiguity_of_shift, ambiguity_of_reduce, optional, optional_of, question_of, suggest_question}
+use Rattle.error.specs.Judge.{Example, Judged, with_both, reduction_at, is_operator_of, ambiguity_of_shift, ambiguity_of_reduce, optional, optional_of, question_of, suggest_question}
 use Rattle.outline.proofs.Diverging.{kinds_same, kinds_differ}
 use Rattle.outline.specs.Kept.{nth}
 use Rattle.shift_items.specs.Codes.{Grammar}
 use Rattle.judge.specs.declared.Judged.{Judged as JudgedValue}
 use Rattle.judge.specs.Judging.{pair_in, heads_in, both, shown_in, judged_in, ShownFits, Judges, question_in, optional_one}
 use Rattle.laws.proofs.Bools.{and_left, and_right}
+use Rattle.trace_graph.specs.Graph.{same_symbols}
 
 -- a class with the numbers of the examples shown
 

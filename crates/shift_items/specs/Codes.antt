@@ -7,6 +7,7 @@ use Rattle.repr.specs.Packed.{Packed, symbol_words, productions_in}
 use Rattle.lr1_core.specs.Items.{symbol_sets}
 use Rattle.bits.specs.Bits.{bit_at, bit_put}
 use Rattle.error.specs.Items.{is_terminal}
+use Rattle.lr1_core.specs.Places.{item_place}
 
 -- the packed words hold the table's productions
 pub record Grammar (T : Table) (g : List ℕ) (productions : ℕ) : Type 0 where
@@ -14,13 +15,10 @@ pub record Grammar (T : Table) (g : List ℕ) (productions : ℕ) : Type 0 where
   pub same : productions_in g productions ≡ T.productions
   pub many : productions ≡ length T.productions
 
-unfoldable pub code_of : Item → ℕ
-code_of i = i.production * index_limit + i.index
-
 -- the flag of each item set
 unfoldable pub marked : List Item → List ℕ → List ℕ
 marked [] ws = ws
-marked (i ∷ is) ws = marked is (bit_put ws (code_of i))
+marked (i ∷ is) ws = marked is (bit_put ws (item_place i))
 
 -- the code's item shifts the token, by the packed words
 unfoldable pub shifts_code : List ℕ → ℕ → ℕ → Bool

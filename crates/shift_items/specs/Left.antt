@@ -9,7 +9,8 @@ use Rattle.error.specs.Items.{shifts_token}
 use Rattle.bits.specs.Bits.{bit_at}
 use Rattle.lr1_core.specs.declared.Item.{Item as ItemOf}
 use Rattle.shift_items.specs.Order.{Ordered}
-use Rattle.shift_items.specs.Codes.{Grammar, code_of, wanted}
+use Rattle.shift_items.specs.Codes.{Grammar, wanted}
+use Rattle.lr1_core.specs.Places.{item_place}
 
 -- what the shift items of state s are read from
 pub record Marked (T : Table) (s : ℕ) (g : List ℕ) (n : ℕ) (order marks : List ℕ) : Type 0 where
@@ -17,7 +18,7 @@ pub record Marked (T : Table) (s : ℕ) (g : List ℕ) (n : ℕ) (order marks : 
   pub long : length order ≡ production_limit
   pub ordered : Ordered T.productions n order
   pub flags : length marks ≡ item_flags
-  pub items : (i : Item) → ItemFits T i → bit_at marks (code_of i) ≡ some? (same_item i) (state_at T s).items
+  pub items : (i : Item) → ItemFits T i → bit_at marks (item_place i) ≡ some? (same_item i) (state_at T s).items
 
 -- a shift item of state s
 unfoldable pub is_shift_item : Table → ℕ → ℕ → Item → Bool
@@ -32,7 +33,7 @@ items_left T s token order n at = keep (is_shift_item T s token) (map (place_ite
 
 -- the same by the words alone (`wanted_left` of proofs/Left): the items that are marked and shift the token
 unfoldable pub items_wanted : List ℕ → List ℕ → ℕ → List ℕ → ℕ → ℕ → List Item
-items_wanted g marks token order n at = keep (λ i. wanted g marks token (code_of i)) (map (place_item order) (drop at (below (n * symbol_limit))))
+items_wanted g marks token order n at = keep (λ i. wanted g marks token (item_place i)) (map (place_item order) (drop at (below (n * symbol_limit))))
 
 -- words from which the items of n productions can be read
 pub record Readable (n : ℕ) (order marks : List ℕ) : Type 0 where

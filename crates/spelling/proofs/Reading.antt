@@ -14,7 +14,8 @@ use Rattle.table.proofs.Chains.{or_left, or_right, chain_end}
 use Rattle.table.proofs.Accepted.{accepts}
 use Rattle.table.proofs.Held.{symbol-inside, item-inside, edge_inside, symbol_on, item_on, edge_on, symbol-next_as, item-next_as, edge_next_as, loose_small}
 use Rattle.table.proofs.Indexes.{Asked, inside, loose_past}
-use Rattle.spelling.specs.Grown.{records_from, reached, LooseIndex, chains_of, Heads}
+use Rattle.spelling.specs.Grown.{records_from, LooseIndex, chains_of, Heads}
+use Rattle.compaction.specs.Compaction.{reached}
 
 -- reached as one of the three
 

@@ -7,6 +7,7 @@ use Rattle.table.specs.Quads.{Quad, no_quad}
 use Rattle.table.specs.Words.{word_at, records, loose_records, chain}
 use Rattle.table.specs.Refusals.{as_symbol, as_item, as_edge}
 use Rattle.spelling.specs.Spelled.{symbols_at, items_place, edges_at, records_of, spell}
+use Rattle.compaction.specs.Compaction.{reached}
 
 -- the records from `from` up to and without `past` are those of T's spelling, and the others as they were
 pub record Grown (T : Table) (g g' : List ℕ) (from past : ℕ) : Type 0 where
@@ -33,10 +34,6 @@ records_from t x = chain t (loose_records t) 0 x
 -- the table's record r with another next index
 abbrev pub same_quad : List ℕ → ℕ → ℕ → Quad
 same_quad t next r = record { next = next; one = word_at t r 1; two = word_at t r 2; three = word_at t r 3 }
-
--- an index into a chain of loose records: 0, or a record that is reached
-unfoldable pub reached : List ℕ → ℕ → Bool
-reached t r = as_symbol t r || (as_item t r || as_edge t r)
 
 pub record LooseIndex (t : List ℕ) (x : ℕ) : Type 0 where
   pub below : x < record_limit

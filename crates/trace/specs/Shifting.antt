@@ -17,7 +17,3 @@ distinct is = distinct_from [] is
 
 unfoldable pub shifting : Table → ℕ → ℕ → List Item
 shifting T s n = distinct (keep (can_shift T n) (state_at T s).items)
-
--- an item in one word: production * 17 + index
-unfoldable pub item_of : ℕ → Item
-item_of c = record { production = c / index_limit; index = c % index_limit }

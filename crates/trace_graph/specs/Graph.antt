@@ -59,3 +59,7 @@ add ps e es = elim (some? (is_same_edge ps e) es) [ true ↦ es | false ↦ es +
 -- a node of the graph
 unfoldable pub is_node_of : Node → List TraceEdge → Bool
 is_node_of v es = some? (λ e. elim (is_same_node v e.source) [ true ↦ true | false ↦ is_same_node v e.target ]) es
+
+-- what stands where a list has no edge
+abbrev pub no_edge : TraceEdge
+no_edge = record { source = at_nonterminal 0; target = at_nonterminal 0; label = record { production = 0; index = 0 } }

@@ -7,7 +7,6 @@ use Rattle.repr.specs.Meaning.{Item, Table, TableFits, ItemFits}
 use Rattle.repr.proofs.Lists.{cases}
 use Rattle.state_graph.specs.Walk.{traced_back}
 use Rattle.trace.specs.Traced.{Trace, pair, owner_of, prefix_of}
-use Rattle.trace.specs.Shifting.{item_of}
 use Rattle.trace.specs.Reduce.{item_of_reduce, state_of_reduce}
 use Rattle.trace.specs.Met.{ItemMet}
 use Rattle.trace.proofs.Seen.{pair_lt}
@@ -20,6 +19,7 @@ use Rattle.tracer.specs.Held.{Held, open_bits, unset}
 use Rattle.tracer.specs.Stamps.{stamp_words, stamp_read_at, Stamped}
 use Rattle.tracer.proofs.Turns.{open_set, open_unset}
 use Rattle.laws.proofs.Lists.{zero_at}
+use Rattle.lr1_core.specs.Places.{item_at_place}
 
 -- by the code's parity
 
@@ -139,7 +139,7 @@ module _ (T : Table) (fits : TableFits T) (s : ℕ) (inside : s < length T.state
     where
       same : (j : Item) → ItemFits T j → (r : ℕ) → stamp_read_at ss' (j.production * index_limit + j.index) ≡ r + 1 → j.production * index_limit + j.index ≡ i.production * index_limit + i.index → ItemMet T r j st
       same j J r e q =
-          let ej : j ≡ i = sym (code-item j (code_small T fits j J).0) ∙ ap item_of q ∙ code-item i (code_small T fits i I).0 in
+          let ej : j ≡ i = sym (code-item j (code_small T fits j J).0) ∙ ap item_at_place q ∙ code-item i (code_small T fits i I).0 in
           let w : r + 1 ≡ s + 1 = sym e ∙ ap (stamp_read_at ss') q ∙ here in
           let er : r ≡ s = omega arith in
           rw (er, ej) M

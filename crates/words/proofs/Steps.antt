@@ -9,11 +9,12 @@ use mathlib.Core.List.{[], ◌∷◌}
 use lib.Dec.{eqb, leb}
 use lib.ListN.{length}
 use borrow.Author.Tests.{le-leb, lt-leb, eq-eqb, ne_eqb}
-use Rattle.words.specs.Text.{Reader, Step, goes, fails, ended, line_begun, line_continued, is_space_byte, is_digit_byte, digit, step}
+use Rattle.words.specs.Text.{Reader, Step, goes, fails, ended, line_begun, line_continued, is_space_byte, digit, step}
 use Rattle.words.specs.declared.Within.{Within}
 use Rattle.words.specs.declared.Within.TheVariants.{Space, Number, Comment}
 use Rattle.words.specs.declared.Reader.{Reader as Held}
 use Rattle.words.specs.Bytes.{word_of, number_in, in_number_of, in_comment_of, reader_of, words_in, Near}
+use Rattle.numerals.specs.Numeral.{is_digit_byte}
 
 if_so : (t : Bool) (x y : Step) → t ≡ true → elim t [ true ↦ x | false ↦ y ] ≡ x
 if_so t x y e = ap (λ (s : Bool). elim s [ true ↦ x | false ↦ y ]) e

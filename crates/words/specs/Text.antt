@@ -1,5 +1,6 @@
 -- A table typed as text: numbers in decimal, between them any white space, from `#` to the end of the line a comment. Assumes nothing: these are definitions.
 use Rattle.std.specs.Prelude.{ℕ, ◌+◌, ◌-◌, ◌*◌, Bool, true, false, ◌&&◌, ◌||◌, List, [], ◌∷◌, ◌++◌, eqb, leb}
+use Rattle.numerals.specs.Numeral.{is_digit_byte}
 
 -- between two bytes: the place of the next one, line and column from 1, and what it stands in
 pub record Reader : Type 0 where
@@ -30,9 +31,6 @@ line_continued r comment = record { line = r.line; column = r.column + 1; number
 -- space, or tab to carriage return (a line's end is tested before)
 unfoldable pub is_space_byte : ℕ → Bool
 is_space_byte b = eqb b 32 || (leb 9 b && leb b 13)
-
-unfoldable pub is_digit_byte : ℕ → Bool
-is_digit_byte b = leb 48 b && leb b 57
 
 -- a word has 16 bits
 unfoldable pub digit : Reader → ℕ → Step

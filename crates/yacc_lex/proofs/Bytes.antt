@@ -6,7 +6,8 @@ use lib.Dec.{eqb}
 use borrow.Author.Tests.{ne_eqb}
 use native.Mathlib.Omega.{arith}
 use Rattle.std.proofs.lemmas.Bool.Decides.{nat_tests}
-use Rattle.yacc_text.specs.Grammar.{Kind, blank, letter, digit, quote, percent, slash, colons, bars, semis, other, is_white_byte, is_letter_byte, is_digit_byte, kind_of, goes_on_byte}
+use Rattle.yacc_text.specs.Grammar.{Kind, blank, letter, digit, quote, percent, slash, colons, bars, semis, other, is_white_byte, is_letter_byte, kind_of, goes_on_byte}
+use Rattle.numerals.specs.Numeral.{is_digit_byte}
 
 -- kinds, one test after the other
 pub kind_white : (b : ℕ) → is_white_byte b ≡ true → kind_of b ≡ blank

@@ -9,7 +9,7 @@ use lib.Dec.{eqb}
 use lib.ListN.{length, get_or, take, drop, length-append, length-take, length-drop, drop_of_length-le}
 use lib.Seq.{drop-drop}
 use borrow.Author.Tests.{eq-eqb, ne_eqb}
-use Rattle.yacc_text.specs.Grammar.{Kind, blank, letter, digit, quote, percent, slash, colons, bars, semis, other, is_digit_byte, kind_of, named, quoted, Token, ident, token, start, mark, colon, bar, semi, Piece, white, comment, piece, spell_id, spell_token, spell_piece, literal_byte, stops}
+use Rattle.yacc_text.specs.Grammar.{Kind, blank, letter, digit, quote, percent, slash, colons, bars, semis, other, kind_of, named, quoted, Token, ident, token, start, mark, colon, bar, semi, Piece, white, comment, piece, spell_id, spell_token, spell_piece, literal_byte, stops}
 use Rattle.yacc_text.specs.Lex.{Next, goes, ends, outside, run_of, past_run, strip, literal_if, next_literal, word_if, start_or, token_or, mark_or, in_comment, comment_or, next_of, next, before, after, lex}
 use Rattle.yacc_text.specs.Places.{width_of, placed, placed_in, placed_from}
 use Rattle.yacc_text.proofs.Lexing.{lex-step}
@@ -19,6 +19,7 @@ use Rattle.yacc_lex.specs.declared.Piece.{Piece as Piece'}
 use Rattle.yacc_lex.specs.declared.Piece.TheVariants.{Gap, Word as AWord, End, Outside}
 use Rattle.yacc_lex.specs.declared.Word.TheVariants.{Name, Literal, Token as TheToken, Start, Mark, Colon, Bar, Semi}
 use Rattle.yacc_lex.proofs.Runs.{drop-next, run_taken, begins-strip, begins-none, begins_long, comment-ends, comment_endless}
+use Rattle.numerals.specs.Numeral.{is_digit_byte}
 
 -- from a step of `next` to the tokens with their places
 lexed : (t : List ℕ) (at : ℕ) (x : Next) → next (drop at t) ≡ x → placed_from t at ≡ placed_in at (after x lex)

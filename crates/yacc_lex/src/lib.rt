@@ -5,9 +5,10 @@
 mod lexeme;
 
 ghost use Rattle.std.specs.Prelude.{◌≡◌, ◌+◌, ◌≤◌, ◌<◌, ◌&&◌, length, get_or, drop};
-ghost use Rattle.yacc_text.specs.Grammar.{quote, percent, slash, is_white_byte, is_letter_byte, is_digit_byte, kind_of, goes_on_byte, closes, literal_byte, stops};
+ghost use Rattle.yacc_text.specs.Grammar.{quote, percent, slash, is_white_byte, is_letter_byte, kind_of, goes_on_byte, closes, literal_byte, stops};
 ghost use Rattle.yacc_text.specs.Lex.{run_of};
 ghost use Rattle.yacc_lex.specs.Steps.{begins, behind_comment, found_at, Steps, Told};
+ghost use Rattle.numerals.specs.Numeral.{is_digit_byte};
 
 pub use lexeme::Lexeme;
 

@@ -8,7 +8,7 @@ use Rattle.slices.specs.Lent.{in_front}
 use Rattle.repr.specs.Lists.{up_from, below, first?, keep, some?, joined}
 use Rattle.table.specs.Quads.{words}
 use Rattle.spelling.specs.Spelled.{head_of, chain_from, chains_from, place_of, size_of, kind_of as kind_of_symbol, number_of, states_at, productions_at, symbols_at, items_place, edges_at, records_of, owns, record_or, next_owned_from, nonterminal_quad, state_quad, production_quad, count_quad, nonterminal_quads, state_quads, production_quads, symbol_quads, item_quads, edge_quads, quads, spell}
-use Rattle.yacc_text.specs.Grammar.{is_white_byte, is_letter_byte, is_digit_byte, kind_of, goes_on_byte, no_start, one_start, spell_id, spell_token, spell_piece, tokens_in, slash_next, closes, literal_byte, stops}
+use Rattle.yacc_text.specs.Grammar.{is_white_byte, is_letter_byte, kind_of, goes_on_byte, no_start, one_start, spell_id, spell_token, spell_piece, tokens_in, slash_next, closes, literal_byte, stops}
 use Rattle.yacc_text.specs.Lex.{rest, run_of, past_run, strip, literal_if, next_literal, word_if, start_or, token_or, mark_or, longer, in_comment, comment_or, next_of, next, before, after, lex_steps, lex}
 use Rattle.yacc_text.specs.Parse.{left_side as left_side_of, marked, declared, begun, step, run, whole, file_of, laid, parsed, parse}
 use Rattle.yacc_text.specs.Places.{width_of, placed}
@@ -17,6 +17,7 @@ use Rattle.yacc_read.specs.Events.{event_of, events}
 use Rattle.yacc_read.specs.Source.{same_id, is_known, number_in, enter, entered, left_side, literal_use, token_use, start_use, span_start, span_end, alternative, alternatives_from, source_of}
 use Rattle.yacc_read.specs.Meaning.{symbol_of, production_of, productions_of, owned, table_of, places_of, start_of}
 use Rattle.yacc_read.specs.Outcome.{unchanged, nowhere, undefined_use, named_both_ways, undefined_start, misnamed, too_many, too_long, room, answer_of, fitted_of, counted_of, named_of, source_in, parsed_of, read_of, read_as}
+use Rattle.numerals.specs.Numeral.{is_digit_byte}
 
 pub record Call : Type 0 where
   pub text : List ℕ

@@ -7,11 +7,12 @@ use mathlib.Core.List.{List, [], ◌∷◌, ◌++◌, map, append_assoc, append-
 use lib.ListN.{length, length-append}
 use lib.Seq.{take-append_seam, get_or-append_seam}
 use Rattle.repr.proofs.Lists.{cases}
-use Rattle.yacc_text.specs.Grammar.{kind_of, is_white_byte, is_letter_byte, is_digit_byte, goes_on_byte, literal_byte}
+use Rattle.yacc_text.specs.Grammar.{kind_of, is_white_byte, is_letter_byte, goes_on_byte, literal_byte}
 use Rattle.yacc_text.specs.Forward.{Mode, begins, sides, move}
 use Rattle.yacc_stray.specs.Stray.{IsStray}
 use Rattle.yacc_stray.specs.Automaton.{State, initial, signs, marks, step_kind, step_signed, step_word, step_inside, step_part, step, fed}
 use Rattle.yacc_stray.proofs.Live.{is_dead, is_dead_lem, fed-append, fed-more, stray-ends, stray_dies}
+use Rattle.numerals.specs.Numeral.{is_digit_byte}
 
 abbrev mode_in : State → Mode
 mode_in s = s.mode

@@ -12,7 +12,7 @@ use borrow.Author.Tests.{eq-eqb, ltb-true, ltb-false}
 use Rattle.repr.proofs.Lists.{cases, clash}
 use Rattle.repr.specs.Lists.{every?}
 use Rattle.repr.proofs.Tests.{every?_yes, every?_cons}
-use Rattle.yacc_text.specs.Grammar.{Kind, blank, letter, digit, quote, percent, slash, colons, bars, semis, other, token, start, kind_of, is_white_byte, is_letter_byte, is_digit_byte, goes_on_byte, literal_byte, Piece, Layout, Sound, spell}
+use Rattle.yacc_text.specs.Grammar.{Kind, blank, letter, digit, quote, percent, slash, colons, bars, semis, other, token, start, kind_of, is_white_byte, is_letter_byte, goes_on_byte, literal_byte, Piece, Layout, Sound, spell}
 use Rattle.yacc_text.specs.Lex.{lex}
 use Rattle.yacc_text.specs.Parse.{parse}
 use Rattle.yacc_text.specs.Places.{placed_in, placed_from}
@@ -24,6 +24,7 @@ use Rattle.yacc_stray.specs.Stray.{Begins, IsStray}
 use Rattle.yacc_stray.specs.Automaton.{Part, between, run, signed, word, opened, filled, slashed, inside, starred, State, at, lost, initial, signs, marks, step_kind, step_signed, step_word, step_inside, step_part, step, fed, ending, final, ok}
 use Rattle.yacc_stray.proofs.Automaton.{ok-dead, ok_pieces, pieces_ok}
 use Rattle.laws.proofs.Bools.{and-true}
+use Rattle.numerals.specs.Numeral.{is_digit_byte}
 
 -- the automaton accepts the texts of the grammar
 pieces_judged : (m : Mode) (o : Option (List Piece)) → ok_pieces m o ≡ judged m (placed_in 0 o)

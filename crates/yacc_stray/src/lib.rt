@@ -3,11 +3,12 @@
 #![tactic(auto)]
 
 ghost use Rattle.std.specs.Prelude.{false, ◌≡◌, ◌+◌, ◌≤◌, ◌<◌, [], ◌∷◌, length};
-ghost use Rattle.yacc_text.specs.Grammar.{is_white_byte, is_letter_byte, is_digit_byte, kind_of};
+ghost use Rattle.yacc_text.specs.Grammar.{is_white_byte, is_letter_byte, kind_of};
 ghost use Rattle.yacc_tokens.specs.Accepted.{mode_of};
 ghost use Rattle.yacc_stray.specs.Stray.{IsStray, line_of, column_of};
 ghost use Rattle.yacc_stray.specs.Automaton.{lost, signs, marks, step_kind, step_signed, step_word, step_inside, step_part};
 ghost use Rattle.yacc_stray.specs.Numbers.{part_of, Stands};
+ghost use Rattle.numerals.specs.Numeral.{is_digit_byte};
 
 use yacc_lex::{Word, goes_on, is_digit, is_letter, is_literal, is_white};
 use yacc_tokens::{Mode, moved};

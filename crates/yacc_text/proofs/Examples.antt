@@ -4,9 +4,10 @@ use Prim.Native.Nat.{ℕ}
 use mathlib.Core.Path.{◌≡◌, refl}
 use mathlib.Core.List.{List, [], ◌∷◌, map}
 use mathlib.Core.Option.{none, some}
-use Rattle.yacc_text.specs.Grammar.{blank, letter, digit, quote, percent, slash, colons, bars, semis, other, is_white_byte, is_letter_byte, is_digit_byte, kind_of, goes_on_byte, named, quoted, ident, token, mark, colon, bar, semi, comment, piece, rule, tokens, no_start, one_start, tokens_in, slash_next, closes, literal_byte, stops}
+use Rattle.yacc_text.specs.Grammar.{blank, letter, digit, quote, percent, slash, colons, bars, semis, other, is_white_byte, is_letter_byte, kind_of, goes_on_byte, named, quoted, ident, token, mark, colon, bar, semi, comment, piece, rule, tokens, no_start, one_start, tokens_in, slash_next, closes, literal_byte, stops}
 use Rattle.yacc_text.specs.Lex.{rest, run_of, past_run, strip, literal_if, next_literal, word_if, start_or, token_or, mark_or, longer, in_comment, comment_or, next_of, next, before, after, lex_steps, lex}
 use Rattle.yacc_text.specs.Parse.{left_side, marked, declared, begun, step, run, whole, file_of, laid, parsed, parse}
+use Rattle.numerals.specs.Numeral.{is_digit_byte}
 
 -- the bytes beside each edge of docs/YACC.md's table
 pub kinds : map kind_of (0 ∷ 8 ∷ 9 ∷ 10 ∷ 11 ∷ 12 ∷ 13 ∷ 31 ∷ 32 ∷ 33 ∷ 36 ∷ 37 ∷ 38 ∷ 39 ∷ 40 ∷ 45 ∷ 46 ∷ 47 ∷ 48 ∷ 57 ∷ 58 ∷ 59 ∷ 60 ∷ 64 ∷ 65 ∷ 90 ∷ 91 ∷ 94 ∷ 95 ∷ 96 ∷ 97 ∷ 122 ∷ 123 ∷ 124 ∷ 125 ∷ 127 ∷ 128 ∷ 255 ∷ []) ≡ other ∷ other ∷ blank ∷ blank ∷ other ∷ blank ∷ other ∷ other ∷ blank ∷ other ∷ other ∷ percent ∷ other ∷ quote ∷ other ∷ other ∷ letter ∷ slash ∷ digit ∷ digit ∷ colons ∷ semis ∷ other ∷ other ∷ letter ∷ letter ∷ other ∷ other ∷ letter ∷ other ∷ letter ∷ letter ∷ other ∷ bars ∷ other ∷ other ∷ other ∷ other ∷ []

@@ -8,9 +8,10 @@ use mathlib.Core.Option.{Option, none, some}
 use lib.Dec.{eqb}
 use lib.ListN.{length, length-append}
 use borrow.Author.Tests.{not-true, eqb-true}
-use Rattle.yacc_text.specs.Grammar.{Kind, blank, letter, digit, quote, percent, slash, colons, bars, semis, other, kind_of, is_white_byte, is_letter_byte, is_digit_byte, blank?, letter?, goes_on_byte, Id, named, quoted, Token, ident, token, start, mark, colon, bar, semi, Piece, white, comment, piece, spell_id, spell_token, spell_piece, spell_all, all_run, slash_next, closes, clear, literal_byte, ok_id, ok_token, ok_piece, stops, apart_id, apart_token, apart, fits}
+use Rattle.yacc_text.specs.Grammar.{Kind, blank, letter, digit, quote, percent, slash, colons, bars, semis, other, kind_of, is_white_byte, is_letter_byte, blank?, letter?, goes_on_byte, Id, named, quoted, Token, ident, token, start, mark, colon, bar, semi, Piece, white, comment, piece, spell_id, spell_token, spell_piece, spell_all, all_run, slash_next, closes, clear, literal_byte, ok_id, ok_token, ok_piece, stops, apart_id, apart_token, apart, fits}
 use Rattle.yacc_text.specs.Lex.{Next, goes, ends, outside, rest, run_of, past_run, strip, literal_if, next_literal, word_if, start_or, token_or, mark_or, longer, in_comment, comment_or, next_of, next, before, after, lex_steps, lex}
 use Rattle.laws.proofs.Bools.{and-true, both}
+use Rattle.numerals.specs.Numeral.{is_digit_byte}
 
 false-true : ◌≡◌ {A = Bool} false true → ⊥
 false-true q = let w : ◌≡◌ {A = ℕ} 0 1 = ap (λ (o : Bool). elim o [ false ↦ 0 | true ↦ 1 ]) q in omega arith

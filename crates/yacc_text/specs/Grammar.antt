@@ -1,6 +1,7 @@
 -- The yacc texts that are read (docs/YACC.md), without a parser: an abstract file, a layout that writes it down, and what a sound layout is.
 -- Assumes nothing: these are definitions.
 use Rattle.std.specs.Prelude.{ℕ, ◌≤◌, ◌<◌, Bool, true, false, ◌&&◌, ◌||◌, not, ◌≡◌, List, [], ◌∷◌, ◌++◌, eqb, leb, length, get_or}
+use Rattle.numerals.specs.Numeral.{is_digit_byte}
 
 -- bytes of a text at most (refusal 20), and what a byte is below
 abbrev pub text_limit : ℕ
@@ -29,9 +30,6 @@ is_white_byte b = eqb b 32 || (eqb b 9 || (eqb b 10 || eqb b 12))
 -- A to Z, a to z, `.`, `_`
 unfoldable pub is_letter_byte : ℕ → Bool
 is_letter_byte b = (leb 65 b && leb b 90) || ((leb 97 b && leb b 122) || (eqb b 46 || eqb b 95))
-
-unfoldable pub is_digit_byte : ℕ → Bool
-is_digit_byte b = leb 48 b && leb b 57
 
 unfoldable pub kind_of : ℕ → Kind
 kind_of b = elim (is_white_byte b) [

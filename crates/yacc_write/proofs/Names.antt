@@ -10,8 +10,8 @@ use borrow.Author.Tests.{leb-true}
 use Rattle.repr.specs.Lists.{up_from, below, every?}
 use Rattle.repr.specs.Meaning.{Symbol, nonterminal, terminal, Table, SymbolFits, TableFits}
 use Rattle.repr.proofs.Tests.{every?_below}
-use Rattle.numerals.specs.Numeral.{numeral_by, numeral}
-use Rattle.yacc_text.specs.Grammar.{is_white_byte, is_letter_byte, is_digit_byte, kind_of, letter?, goes_on_byte, spell_id, all_run, ok_id}
+use Rattle.numerals.specs.Numeral.{numeral_by, numeral, is_digit_byte}
+use Rattle.yacc_text.specs.Grammar.{is_white_byte, is_letter_byte, kind_of, letter?, goes_on_byte, spell_id, all_run, ok_id}
 use Rattle.yacc_write.specs.Text.{name_of}
 
 all_run_lem : every? (λ n. all_run (numeral n)) (below 63) ≡ true

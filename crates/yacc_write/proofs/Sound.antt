@@ -7,13 +7,14 @@ use mathlib.Core.List.{List, [], ◌∷◌, ◌++◌, map, append-nil}
 use mathlib.Core.Option.{some}
 use Rattle.repr.specs.Lists.{up_from, below, joined}
 use Rattle.repr.specs.Meaning.{Symbol, nonterminal, terminal, Production, Table, SymbolFits, All, ProductionFits, TableFits}
-use Rattle.yacc_text.specs.Grammar.{is_white_byte, is_letter_byte, is_digit_byte, kind_of, blank?, goes_on_byte, named, quoted, Token, ident, token, start, mark, colon, bar, semi, Piece, ids_to, alts_to, rule_to, rules_to, def_to, defs_to, tokens_of, one_start, spell_piece, spell_all, tokens_in, ok_token, ok_piece, stops, apart_id, apart_token, apart, fits, spell, Sound}
+use Rattle.yacc_text.specs.Grammar.{is_white_byte, is_letter_byte, kind_of, blank?, goes_on_byte, named, quoted, Token, ident, token, start, mark, colon, bar, semi, Piece, ids_to, alts_to, rule_to, rules_to, def_to, defs_to, tokens_of, one_start, spell_piece, spell_all, tokens_in, ok_token, ok_piece, stops, apart_id, apart_token, apart, fits, spell, Sound}
 use Rattle.yacc_text.specs.Parse.{parse}
 use Rattle.yacc_text.proofs.Exact.{parse-complete}
 use Rattle.yacc_write.specs.Text.{name_of, name_token, token_line, production_line, lines, spaced, line, pieces_of, text_of}
 use Rattle.yacc_write.specs.Files.{rule_of, defs_of, file_of, layout_of}
 use Rattle.yacc_write.proofs.Names.{number_of, number_small, name_ok}
 use Rattle.yacc_write.proofs.Layouts.{joined_more, owner_fits}
+use Rattle.numerals.specs.Numeral.{is_digit_byte}
 
 both : (a b : Bool) → a ≡ true → b ≡ true → (a && b) ≡ true
 both a b x y = ap (λ (c : Bool). c && b) x ∙ y

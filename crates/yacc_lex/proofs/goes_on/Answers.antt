@@ -1,8 +1,8 @@
 use mathlib.Core.Path.{sym, ap, ◌∙◌}
 use mathlib.Core.Bool.{Bool, ◌||◌}
-use Rattle.yacc_text.specs.Grammar.{is_digit_byte}
 use Rattle.yacc_lex.proofs.Bytes.{goes_is}
 use Rattle.yacc_lex.proofs.goes_on.Goals as goal
+use Rattle.numerals.specs.Numeral.{is_digit_byte}
 
 pub returns-then-is_letter : goal.returns-then-is_letter
 returns-then-is_letter c = c.if-is_letter.true ∙ sym (ap (λ (x : Bool). x || is_digit_byte c.args.b) (sym c.is_letter.ensures ∙ c.if-is_letter.true)) ∙ goes_is c.args.b

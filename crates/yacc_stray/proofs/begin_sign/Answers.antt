@@ -1,12 +1,13 @@
 use native.Mathlib.Omega.{arith}
 use mathlib.Core.Path.{refl, ap}
 use mathlib.Core.List.{[]}
-use Rattle.yacc_text.specs.Grammar.{quote, percent, slash, colons, bars, semis, other, is_white_byte, is_letter_byte, is_digit_byte, kind_of}
+use Rattle.yacc_text.specs.Grammar.{quote, percent, slash, colons, bars, semis, other, is_white_byte, is_letter_byte, kind_of}
 use Rattle.yacc_lex.specs.Steps.{token_at}
 use Rattle.yacc_lex.proofs.Bytes.{kind_other}
 use Rattle.yacc_stray.specs.Automaton.{step_kind}
 use Rattle.yacc_stray.proofs.Numbers.{by_kind}
 use Rattle.yacc_stray.proofs.begin_sign.Goals as goal
+use Rattle.numerals.specs.Numeral.{is_digit_byte}
 
 pub returns-in-39 : goal.returns-in-39
 unfolding step_kind token_at kind_of is_white_byte is_letter_byte is_digit_byte
