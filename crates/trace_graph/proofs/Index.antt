@@ -27,10 +27,10 @@ module _ (ix : List ℕ) (links : ℕ) (u : ℕ → Bool) where
   -- a test that only edges of the chain pass is passed by none between a link and k
   pub linked_some : (ws : List ℕ) (t : TraceEdge → Bool) (h k : ℕ) → ((j : ℕ) → j < k → u j ≡ false → t (edge_at ws j) ≡ false)
       → Linked ix links h (newest u k) → some? t (first_edges ws k) ≡ some? t (first_edges ws h)
-  linked_some ws t h zero f l = let z = linked_nil h (rw (newest-none u) at l) in ap (λ (j : ℕ). some? t (first_edges ws j)) (sym z)
+  linked_some ws t h zero f l = let z = linked_nil ix links u h (rw (newest-none u) at l) in ap (λ (j : ℕ). some? t (first_edges ws j)) (sym z)
   linked_some ws t h (suc k) f l =
       cases (u k)
-      (λ s. let e = (linked_cons h k (newest u k) (rw (newest-yes u k s) at l)).0 in ap (λ (j : ℕ). some? t (first_edges ws j)) (sym e))
+      (λ s. let e = (linked_cons ix links u h k (newest u k) (rw (newest-yes u k s) at l)).0 in ap (λ (j : ℕ). some? t (first_edges ws j)) (sym e))
       (λ s. some_no t ws k (f k (omega arith) s) ∙ linked_some ws t h k (λ j m. f j (omega arith)) (rw (newest_no u k s) at l))
     where
       some_no : (t : TraceEdge → Bool) (ws : List ℕ) (k : ℕ) → t (edge_at ws k) ≡ false → some? t (first_edges ws (suc k)) ≡ some? t (first_edges ws k)
