@@ -60,8 +60,8 @@ module _ (T : Table) (k : ℕ) (l : k < length T.states) (c : Clash) (ranges : I
       (λ t. rw t)
 
 -- whatever is lent, where it is long enough
-pub classified_lem : (T : Table) (start : ℕ) (u list : List ℕ) (C : IsCanonical T start u list) → Classified T start u list C
-classified_lem T start u list C = λ k l c m scratch action reduce ls la lr.
+pub conflicts_fit : (T : Table) (start : ℕ) (u list : List ℕ) (C : IsCanonical T start u list) → Classified T start u list C
+conflicts_fit T start u list C = λ k l c m scratch action reduce ls la lr.
     let inside = C.inside k l c m in
     let h : k < length (meaning u).states = rw C.many l in
     over_accepted u (meaning u) (conflict_of k c) scratch action reduce C.accepted refl
