@@ -1,6 +1,6 @@
 use Rattle.std.proofs.Common.{sym, ◌∙◌}
 use Rattle.trace_graph.proofs.Fits.{item-below, item-within}
-use Rattle.replay.proofs.sets.ask_item_in.Goals as goal
+use Rattle.item_sets.proofs.sets.ask_item_in.Goals as goal
 
 pub say_item-requires : goal.say_item-requires
 say_item-requires g c =
