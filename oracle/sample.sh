@@ -8,30 +8,21 @@ set -eu
 here=$(cd "$(dirname "$0")" && pwd)
 top=$(dirname "$here")
 oracle=${ORACLE_OUT:-$top/target/oracle}/oracle
-made=$(mktemp -d)
-trap 'rm -rf "$made"' EXIT
-mkdir "$made/parts"
-"$oracle" sample "$made/requests" "$made/answers"
-"$here/split.py" "$made/requests" "$made/answers" "$made/parts"
-
-# Each part with its place.
-each() { # command
-    "$1" "$made/parts/requests" "$top/tests/sample/requests"
-    "$1" "$made/parts/answers" "$top/tests/sample/answers"
-    "$1" "$made/parts/sets.requests" "$top/crates/item_sets/stdin"
-    "$1" "$made/parts/sets.answers" "$top/crates/item_sets/stdout"
-}
-
 case "${1:-}" in
-"")
-    each cp
-    ;;
---check)
-    each cmp
-    echo "no difference"
-    ;;
+"") command=cp ;;
+--check) command=cmp ;;
 *)
     echo "sample.sh [--check]" >&2
     exit 2
     ;;
 esac
+made=$(mktemp -d)
+trap 'rm -rf "$made"' EXIT
+mkdir "$made/parts"
+"$oracle" sample "$made/requests" "$made/answers"
+"$here/split.py" "$made/requests" "$made/answers" "$made/parts"
+$command "$made/parts/requests" "$top/tests/sample/requests"
+$command "$made/parts/answers" "$top/tests/sample/answers"
+$command "$made/parts/sets.requests" "$top/crates/item_sets/stdin"
+$command "$made/parts/sets.answers" "$top/crates/item_sets/stdout"
+[ "$command" = cp ] || echo "no difference"
