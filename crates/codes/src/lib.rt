@@ -245,7 +245,7 @@ fn cursor_node(grammar: Grammar, item: Item) -> Node
 }
 
 // The edge of a word.
-fn edge_of(grammar: Grammar, code: usize) -> TraceEdge
+pub fn edge_of(grammar: Grammar, code: usize) -> TraceEdge
     requires { (T : meaning-of.Table) × ((e : graph-of.TraceEdge) × Decodes grammar.words.now grammar.productions T e code) }
     ensures { SmallEdge result × ((T : meaning-of.Table) (e : graph-of.TraceEdge) → Decodes grammar.entry.words.now grammar.entry.productions T e code → value_words result ≡ edge_words e) }
 {
