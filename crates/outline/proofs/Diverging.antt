@@ -7,7 +7,8 @@ use Rattle.repr.specs.Meaning.{Symbol, is_same_symbol, no_production}
 use Rattle.repr.specs.Listed.{symbol_of_kind, listed, symbol_is_fit, list_is_fit}
 use Rattle.repr.specs.Packed.{Packed, production_in, productions_in, symbol_words}
 use Rattle.repr.proofs.Lists.{cases, length-map-below}
-use Rattle.repr.proofs.Listed.{and_left, and_right, symbol_range}
+use Rattle.laws.proofs.Bools.{and_left, and_right}
+use Rattle.repr.proofs.Listed.{symbol_range}
 use Rattle.lr1_core.specs.Items.{symbol_sets}
 use Rattle.lr1_core.specs.declared.Item.{Item as ItemOf}
 use Rattle.trace_graph.specs.Fits.{item_is_fit}

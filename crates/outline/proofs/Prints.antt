@@ -3,7 +3,7 @@ use Rattle.std.proofs.Common.{◌≡◌, ℕ, ◌%◌, ◌<◌, true, false, Lis
 use Rattle.repr.specs.Lists.{joined}
 use Rattle.repr.specs.Meaning.{Symbol, nonterminal, terminal, Production}
 use Rattle.repr.proofs.Lists.{clash}
-use Rattle.repr.proofs.Listed.{and_left, and_right}
+use Rattle.laws.proofs.Bools.{and_left, and_right}
 use Rattle.repr.proofs.SameSymbol.{same_equal}
 use Rattle.example.specs.Example.{ExampleSymbol, symbol, epsilon, prefixes, suffixes, middle, symbols, symbol_words, reductions, reduction_words, example_words}
 use Rattle.example.specs.Written.{words_of, Part}

@@ -5,7 +5,7 @@ use mathlib.Core.List.{List}
 use Prim.Native.Nat.{ℕ}
 use lib.Seq.{slice}
 use Rattle.slices.specs.Same.{same_words}
-use Rattle.yacc_names.proofs.Laws.{same_is}
+use Rattle.slices.proofs.Same.{same_pointwise}
 use native.Mathlib.Omega.{arith}
 use Rattle.yacc_names.proofs.find.Goals as goal
 
@@ -31,7 +31,7 @@ pub bytes-requires : goal.bytes-requires
 bytes-requires c = let l = find_low _ _ _ _ _ c.args.from c.args.past c.requires.entered _ c.loop-next.invariant c.loop-next-test.true in let i = c.requires.entered.inside _ l in omega (arith, i, c.word-end.ensures.0)
 
 pub returns-then-eq : goal.returns-then-eq
-returns-then-eq c = find-found _ _ _ _ _ c.args.from c.args.past c.requires.entered _ c.loop-next.invariant c.loop-next-test.true _ _ _ c.word-start.ensures.0 c.word-end.ensures.0 (c.eq.ensures ∙ same_is _ _ ∙ ap (λ (xs : List ℕ). same_words xs c.bytes.result.now) c.bytes-name.ensures ∙ ap (same_words (slice c.args.from c.args.past c.args.text.now)) c.bytes.ensures) c.if-eq.true
+returns-then-eq c = find-found _ _ _ _ _ c.args.from c.args.past c.requires.entered _ c.loop-next.invariant c.loop-next-test.true _ _ _ c.word-start.ensures.0 c.word-end.ensures.0 (c.eq.ensures ∙ same_pointwise _ _ ∙ ap (λ (xs : List ℕ). same_words xs c.bytes.result.now) c.bytes-name.ensures ∙ ap (same_words (slice c.args.from c.args.past c.args.text.now)) c.bytes.ensures) c.if-eq.true
 
 pub overflow_add-next : goal.overflow_add-next
 overflow_add-next c = let l = find_low _ _ _ _ _ c.args.from c.args.past c.requires.entered _ c.loop-next.invariant c.loop-next-test.true in search rules
@@ -43,7 +43,7 @@ pub loop-next-smaller : goal.loop-next-smaller
 loop-next-smaller c = find_less _ _ _ _ _ c.args.from c.args.past c.requires.entered _ c.loop-next.invariant c.loop-next-test.true _ c.word-next-in-loop-next.ensures.0
 
 pub loop-next-preserved : goal.loop-next-preserved
-loop-next-preserved c = find_again _ _ _ _ _ c.args.from c.args.past c.requires.entered _ c.loop-next.invariant c.loop-next-test.true _ _ _ c.word-start.ensures.0 c.word-end.ensures.0 (c.eq.ensures ∙ same_is _ _ ∙ ap (λ (xs : List ℕ). same_words xs c.bytes.result.now) c.bytes-name.ensures ∙ ap (same_words (slice c.args.from c.args.past c.args.text.now)) c.bytes.ensures) c.if-eq.false _ c.word-next-in-loop-next.ensures.0
+loop-next-preserved c = find_again _ _ _ _ _ c.args.from c.args.past c.requires.entered _ c.loop-next.invariant c.loop-next-test.true _ _ _ c.word-start.ensures.0 c.word-end.ensures.0 (c.eq.ensures ∙ same_pointwise _ _ ∙ ap (λ (xs : List ℕ). same_words xs c.bytes.result.now) c.bytes-name.ensures ∙ ap (same_words (slice c.args.from c.args.past c.args.text.now)) c.bytes.ensures) c.if-eq.false _ c.word-next-in-loop-next.ensures.0
 
 pub returns : goal.returns
 returns c = find_end _ _ _ _ _ c.args.from c.args.past c.requires.entered _ c.loop-next.invariant c.loop-next-test.false
