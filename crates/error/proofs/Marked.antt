@@ -17,7 +17,7 @@ use Rattle.table.specs.TableB.{table_b}
 use Rattle.first.specs.declared.Answer.{Answer}
 use Rattle.first.specs.First.{join, first_of, marked_at_end, unmarked, first0, meets_ahead, disjoint, grown, round, settle, sets_of_first, FIRST, nullable}
 use Rattle.state_graph.specs.Walk.{leads, predecessors, walked_back, traced_back}
-use Rattle.trace_graph.specs.Graph.{at_item, same_item, is_same_node, TraceEdge, label_of, same_symbols as alike, same_cursor, same_sets, is_same_edge, add, is_node_of, same_symbols}
+use Rattle.trace_graph.specs.Graph.{at_item, same_item, is_same_node, TraceEdge, label_of, same_cursor, same_sets, is_same_edge, add, is_node_of, same_symbols}
 use Rattle.trace_graph.specs.Words.{node_words, edge_words, graph_words, node_of, node_at, edge_at as lent_edge, edges_in}
 use Rattle.trace_graph.specs.Fits.{item_is_fit, node_fits, edge_is_fit, once, graph_fits}
 use Rattle.trace.specs.Traced.{untraced, pair, enter, add_to, owner_of, symbols_of, can_shift, prefix_of, suffix_of, in_turn}
@@ -135,5 +135,5 @@ pub marked : asked (meaning table_b) ≡
     ∷ leaves (classed 5 (0 ∷ 9 ∷ 0 ∷ 9 ∷ []) 3 3) (written line_r) buffer
     ∷ numbers (0 ∷ 0 ∷ 1 ∷ 0 ∷ 0 ∷ 0 ∷ [])
     ∷ []
-unfolding checked shift_b reduce_b classified asked up_from below mem occurrences keep some? every? first? joined is_same_symbol symbol_of_kind symbol_is_fit has single union meet without members first symbol_sets is_nonterminal shifts_nonterminal word_at records state_area production_area loose production_records loose_records names against chain_by chain production_chain symbol_chain item_chain edge_chain symbol_at item_at edge_at or_zero owner_in production_of state_of productions_of meaning row1 row2 nonterminal_record is_state is_production as_symbol as_item as_edge row3 row4 row5 row6 row7 used row8 offends first_row check_of join first_of marked_at_end unmarked first0 meets_ahead disjoint grown round same_words settle sets_of_first FIRST nullable leads predecessors walked_back traced_back same_item is_same_node label_of alike same_cursor same_sets is_same_edge add is_node_of node_words edge_words graph_words node_of node_at lent_edge edges_in item_is_fit node_fits edge_is_fit once graph_fits untraced pair enter add_to owner_of symbols_of can_shift prefix_of suffix_of in_turn epsilon_item epsilon shift_trace shift_edges reduce_state_item item_of_reduce state_of_reduce reduce_trace reduce_edges sets_of prefixes suffixes at_cursor middle symbols spans reductions symbol_words reduction_words example_words cursor_of ahead meets trials enough owner_of_node label_at labels_of passes hands says search found_out found_then plain_find plain_out plain_then plain_run plain_lister number_of_class values_of_class symbol_before are_symbols_before is_production_before placed in_order production_order cursor_items all_items is_terminal shifts_token shift_items listing_side with_more examples_in shift_side_from shift_side item_at_end reduce_side action_side_of both_sides gather inserted sorted_from sorted_by product first_fit with_both symbol_count cursor_at reduction_at same_example_symbol same_example_symbols is_same_reading same_symbols is_operator_of ambiguity_of_shift ambiguity_of_reduce ambiguity_of optional optional_of question_of suggest_question between shift_upcoming reduce_upcoming diverge inlines inline_or question_or unambiguous ambiguous_or judge judged in_front zeroed operand_fits place_is_fit conflict_fits shifts_end shown judged_with gathered_with classify_in_with classify_by_with classify_with is_whole_example before_cursor observed_of
+unfolding checked shift_b reduce_b classified asked up_from below mem occurrences keep some? every? first? joined is_same_symbol symbol_of_kind symbol_is_fit has single union meet without members first symbol_sets is_nonterminal shifts_nonterminal word_at records state_area production_area loose production_records loose_records names against chain_by chain production_chain symbol_chain item_chain edge_chain symbol_at item_at edge_at or_zero owner_in production_of state_of productions_of meaning row1 row2 nonterminal_record is_state is_production as_symbol as_item as_edge row3 row4 row5 row6 row7 used row8 offends first_row check_of join first_of marked_at_end unmarked first0 meets_ahead disjoint grown round same_words settle sets_of_first FIRST nullable leads predecessors walked_back traced_back same_item is_same_node label_of same_cursor same_sets is_same_edge add is_node_of node_words edge_words graph_words node_of node_at lent_edge edges_in item_is_fit node_fits edge_is_fit once graph_fits untraced pair enter add_to owner_of symbols_of can_shift prefix_of suffix_of in_turn epsilon_item epsilon shift_trace shift_edges reduce_state_item item_of_reduce state_of_reduce reduce_trace reduce_edges sets_of prefixes suffixes at_cursor middle symbols spans reductions symbol_words reduction_words example_words cursor_of ahead meets trials enough owner_of_node label_at labels_of passes hands says search found_out found_then plain_find plain_out plain_then plain_run plain_lister number_of_class values_of_class symbol_before are_symbols_before is_production_before placed in_order production_order cursor_items all_items is_terminal shifts_token shift_items listing_side with_more examples_in shift_side_from shift_side item_at_end reduce_side action_side_of both_sides gather inserted sorted_from sorted_by product first_fit with_both symbol_count cursor_at reduction_at same_example_symbol same_example_symbols is_same_reading same_symbols is_operator_of ambiguity_of_shift ambiguity_of_reduce ambiguity_of optional optional_of question_of suggest_question between shift_upcoming reduce_upcoming diverge inlines inline_or question_or unambiguous ambiguous_or judge judged in_front zeroed operand_fits place_is_fit conflict_fits shifts_end shown judged_with gathered_with classify_in_with classify_by_with classify_with is_whole_example before_cursor observed_of
 marked = refl
