@@ -12,8 +12,8 @@ pub mod words;
 
 ghost use Rattle.std.specs.Prelude.{◌≤◌, length};
 
-use little::decode;
-use repr::word;
+use lr1_base::le_words::decode;
+use lr1_base::repr::word;
 use sets::{ask_item, ask_sets};
 use std::io;
 use std::io::Read;

@@ -1,13 +1,13 @@
 // Ops 14 and 15: token sets, an item's symbols.
 ghost use Rattle.std.specs.Prelude.{◌≡◌, ◌<◌, ◌≤◌, length};
-ghost use Rattle.repr.specs.Packed.{symbol_words};
-ghost use Rattle.repr.specs.Listed.{listed};
+ghost use Rattle.lr1_base.specs.repr.Packed.{symbol_words};
+ghost use Rattle.lr1_base.specs.repr.Listed.{listed};
 
 use crate::say::{say_answer, say_bool, say_halves, say_next, say_words};
 use crate::words::Request;
-use lookahead::TokenSet;
-use lr1_core::Item;
-use repr::{Grammar, NonterminalString, ProductionIndex, Refusal};
+use lr1_base::item::Item;
+use lr1_base::lookahead::TokenSet;
+use lr1_base::repr::{Grammar, NonterminalString, ProductionIndex, Refusal};
 use table::AcceptedTable;
 use trace_graph::item_fits;
 

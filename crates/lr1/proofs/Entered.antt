@@ -7,17 +7,17 @@ use native.Mathlib.Omega.{arith}
 use lib.ListN.{length}
 use lib.Dec.{ltb}
 use borrow.Author.Tests.{lt-ltb, le-ltb}
-use Rattle.repr.specs.Reply.{answered, refused}
-use Rattle.repr.specs.Meaning.{Table, Production}
-use Rattle.repr.specs.Listed.{listed, list_is_fit}
-use Rattle.repr.proofs.Listed.{symbol_wider}
+use Rattle.lr1_base.specs.repr.Reply.{answered, refused}
+use Rattle.lr1_base.specs.repr.Meaning.{Table, Production}
+use Rattle.lr1_base.specs.repr.Listed.{listed, list_is_fit}
+use Rattle.lr1_base.proofs.repr.Listed.{symbol_wider}
 use Rattle.table.specs.Checked.{Checked, Accepted, Refused}
 use Rattle.table.specs.Decoded.{meaning}
 use Rattle.first.specs.First.{FIRST, first0, first1, sets_of_first}
 use Rattle.first.specs.declared.Answer.{Answer}
 use Rattle.state_graph.specs.Walk.{traced_back}
 use Rattle.lr1.specs.Entries.{over_table, symbols_fit, tokens_fit, first0_answer, first1_answer, trace_back_answer}
-use Rattle.laws.proofs.Bools.{and-true}
+use Rattle.lr1_base.proofs.laws.Bools.{and-true}
 
 module _ {A : Type 0} (refuse : ℕ → ℕ → A) (answer : Table → A) (t : List ℕ) where
   pub over-refused : (n r : ℕ) (c : Checked) → c ≡ Refused n r → refuse n r ≡ over_table refuse answer t c

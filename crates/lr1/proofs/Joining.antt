@@ -7,13 +7,13 @@ use native.Mathlib.Omega.{arith}
 use lib.Dec.{ltb}
 use lib.ListN.{length}
 use borrow.Author.Tests.{ltb-true, lt-ltb}
-use Rattle.repr.specs.Reply.{answered, refused}
-use Rattle.repr.specs.Lists.{mem, joined}
-use Rattle.repr.specs.Meaning.{Symbol, Table}
-use Rattle.repr.specs.Listed.{listed}
-use Rattle.repr.proofs.Lists.{mem-cons_here, mem-cons_there, joined_nil, joined_cons, joined_members}
-use Rattle.repr.proofs.Parts.{length-listed}
-use Rattle.repr.proofs.Joined.{listed-append, fits-append}
+use Rattle.lr1_base.specs.repr.Reply.{answered, refused}
+use Rattle.lr1_base.specs.repr.Lists.{mem, joined}
+use Rattle.lr1_base.specs.repr.Meaning.{Symbol, Table}
+use Rattle.lr1_base.specs.repr.Listed.{listed}
+use Rattle.lr1_base.proofs.repr.Lists.{mem-cons_here, mem-cons_there, joined_nil, joined_cons, joined_members}
+use Rattle.lr1_base.proofs.repr.Parts.{length-listed}
+use Rattle.lr1_base.proofs.repr.Joined.{listed-append, fits-append}
 use Rattle.table.specs.Checked.{Checked, Accepted, Refused}
 use Rattle.table.specs.Decoded.{meaning}
 use Rattle.table.specs.Refusals.{check_of}
@@ -25,7 +25,7 @@ use Rattle.state_graph.proofs.Exact.{mem_one, walk_inside}
 use Rattle.state_graph.proofs.Merged.{trace_append}
 use Rattle.lr1.specs.Entries.{over_table, symbols_fit, first0_answer, first0_of, trace_back_answer, trace_back_of}
 use Rattle.lr1.specs.Joining.{Joining, EntriesJoin}
-use Rattle.laws.proofs.Bools.{and_left, and_right}
+use Rattle.lr1_base.proofs.laws.Bools.{and_left, and_right}
 
 pub joining : (T : Table) → Joining T
 joining T = record {

@@ -10,14 +10,14 @@ use native.Mathlib.Omega.{arith}
 use lib.ListN.{length, get_or, get_or-eq_default}
 use lib.Dec.{eqb, ltb}
 use borrow.Author.Tests.{eqb-true, eqb-false, ltb-true, ltb-false}
-use Rattle.repr.specs.Lists.{up_from, below, mem, keep, some?}
-use Rattle.repr.specs.Meaning.{Symbol, is_same_symbol, Edge, State, Table, state_at, no_state}
-use Rattle.repr.proofs.Lists.{cases, clash, mem-nil, mem-cons, mem-append, mem-cons_here, mem-keep, mem_below, keep_agree}
-use Rattle.repr.proofs.Tests.{some?-nil, some?-yes, some?_no, some?-cons}
-use Rattle.repr.proofs.SameSymbol.{same_equal, same_refl}
-use Rattle.lookahead.proofs.Members.{kept_ascend}
+use Rattle.lr1_base.specs.repr.Lists.{up_from, below, mem, keep, some?}
+use Rattle.lr1_base.specs.repr.Meaning.{Symbol, is_same_symbol, Edge, State, Table, state_at, no_state}
+use Rattle.lr1_base.proofs.repr.Lists.{cases, clash, mem-nil, mem-cons, mem-append, mem-cons_here, mem-keep, mem_below, keep_agree}
+use Rattle.lr1_base.proofs.repr.Tests.{some?-nil, some?-yes, some?_no, some?-cons}
+use Rattle.lr1_base.proofs.repr.SameSymbol.{same_equal, same_refl}
+use Rattle.lr1_base.proofs.lookahead.Members.{kept_ascend}
 use Rattle.state_graph.specs.Walk.{Path, stay, go, Ascending, leads, predecessors, walked_back, traced_back}
-use Rattle.laws.proofs.Bools.{agree as both_ways, and-true}
+use Rattle.lr1_base.proofs.laws.Bools.{agree as both_ways, and-true}
 
 -- some element passes: with the element, which is in the list
 module _ {ℓ} {A : Type ℓ} where

@@ -8,17 +8,17 @@ use native.Mathlib.Omega.{arith}
 use lib.ListN.{length}
 use lib.Dec.{eqb, ltb, leb}
 use borrow.Author.Tests.{eqb-true, eqb-false, ltb-true, ltb-false, leb-true, leb-false, not-false, le-leb, lt-ltb}
-use Rattle.repr.specs.Sizes.{record_limit}
-use Rattle.repr.specs.Lists.{below, occurrences, joined, first?}
-use Rattle.repr.specs.Listed.{symbol_is_fit}
-use Rattle.repr.proofs.Lists.{cases}
-use Rattle.repr.proofs.Tests.{first?-below-none}
+use Rattle.lr1_base.specs.repr.Sizes.{record_limit}
+use Rattle.lr1_base.specs.repr.Lists.{below, occurrences, joined, first?}
+use Rattle.lr1_base.specs.repr.Listed.{symbol_is_fit}
+use Rattle.lr1_base.proofs.repr.Lists.{cases}
+use Rattle.lr1_base.proofs.repr.Tests.{first?-below-none}
 use Rattle.table.specs.Checked.{Accepted}
 use Rattle.table.specs.Words.{word_at, records, nonterminals, terminals, states, productions, state_area, production_area, loose, loose_records, production_records, against}
 use Rattle.table.specs.Decoded.{production_chain, symbol_chain}
 use Rattle.table.specs.Refusals.{row1, row2, row3, row4, row5, row6, row7, row8, is_nonterminal, is_state, is_production, as_symbol, as_item, as_edge, offends, first_row, check_of}
 use Rattle.table.proofs.Chains.{or-false, or_left, or_right}
-use Rattle.laws.proofs.Bools.{and-true, both, when}
+use Rattle.lr1_base.proofs.laws.Bools.{and-true, both, when}
 
 -- no record of the table offends
 pub record Accepts (t : List ℕ) : Type 0 where

@@ -7,10 +7,10 @@ use Prim.Native.Nat.{ℕ, zero, suc, ◌+◌, ◌≤◌, ◌<◌}
 use native.Mathlib.Omega.{arith}
 use lib.Dec.{eqb, ltb, leb}
 use borrow.Author.Tests.{eqb-true, eqb-false, ne_eqb, ltb-true, lt-ltb, leb-true, le-leb, not-false}
-use Rattle.repr.specs.Lists.{mem, occurrences}
-use Rattle.repr.proofs.Lists.{cases, clash, mem-nil, mem_no, mem-cons_here, mem-cons_there, occurrences-yes, occurrences_no, occurrences-none}
+use Rattle.lr1_base.specs.repr.Lists.{mem, occurrences}
+use Rattle.lr1_base.proofs.repr.Lists.{cases, clash, mem-nil, mem_no, mem-cons_here, mem-cons_there, occurrences-yes, occurrences_no, occurrences-none}
 use Rattle.table.specs.Words.{word_at, records, loose, Area, production_records, loose_records, names, against, chain_by, chain}
-use Rattle.laws.proofs.Bools.{and-true}
+use Rattle.lr1_base.proofs.laws.Bools.{and-true}
 
 -- two tests
 

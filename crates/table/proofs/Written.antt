@@ -9,15 +9,15 @@ use lib.ListN.{length, get_or, take, drop, set, length-set, length-take, length-
 use lib.Seq.{get_or-set_same, get_or-set_other, take-suc-set, drop-set-add, drop-set-lt, get_or-take, get_or-drop, ext_get_or, length-take-le}
 use lib.Dec.{eqb, ltb}
 use borrow.Author.Tests.{eqb-true, eqb-false, ltb-true, ltb-false}
-use Rattle.repr.specs.Sizes.{nonterminal_limit, terminal_limit, production_place, grammar_room}
-use Rattle.repr.specs.Lists.{below, mem}
-use Rattle.repr.specs.Meaning.{Symbol, Production, Table, production_at, no_production, ProductionFits}
-use Rattle.repr.specs.Listed.{symbol_of_kind, listed, symbol_is_fit, list_is_fit}
-use Rattle.repr.specs.Packed.{symbol_words, production_in, productions_in, Packed}
-use Rattle.repr.proofs.Listed.{symbol_range, symbol_wider}
-use Rattle.repr.proofs.Joined.{listed-append, fits-append, fits_one}
-use Rattle.repr.proofs.Lists.{cases, clash, mem-nil, mem_no, mem-cons_here, mem-cons_there, length-map-below, get_d_map-below}
-use Rattle.repr.proofs.Tests.{All_at}
+use Rattle.lr1_base.specs.repr.Sizes.{nonterminal_limit, terminal_limit, production_place, grammar_room}
+use Rattle.lr1_base.specs.repr.Lists.{below, mem}
+use Rattle.lr1_base.specs.repr.Meaning.{Symbol, Production, Table, production_at, no_production, ProductionFits}
+use Rattle.lr1_base.specs.repr.Listed.{symbol_of_kind, listed, symbol_is_fit, list_is_fit}
+use Rattle.lr1_base.specs.repr.Packed.{symbol_words, production_in, productions_in, Packed}
+use Rattle.lr1_base.proofs.repr.Listed.{symbol_range, symbol_wider}
+use Rattle.lr1_base.proofs.repr.Joined.{listed-append, fits-append, fits_one}
+use Rattle.lr1_base.proofs.repr.Lists.{cases, clash, mem-nil, mem_no, mem-cons_here, mem-cons_there, length-map-below, get_d_map-below}
+use Rattle.lr1_base.proofs.repr.Tests.{All_at}
 use Rattle.table.specs.Checked.{Accepted}
 use Rattle.table.specs.Words.{word_at, productions, production_area, loose_records, chain, production_records}
 use Rattle.table.specs.Decoded.{symbol_chain, symbol_at, production_of, meaning, productions_from}

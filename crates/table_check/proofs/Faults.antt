@@ -8,11 +8,11 @@ use native.Mathlib.Omega.{arith}
 use lib.ListN.{length}
 use lib.Dec.{eqb, ltb, leb}
 use borrow.Author.Tests.{ne_eqb, lt-ltb, le-ltb, le-leb, lt-leb, ltb-false, leb-false}
-use Rattle.bits.specs.Bits.{bit_at}
-use Rattle.repr.specs.Sizes.{index_limit}
-use Rattle.repr.specs.Lists.{below, first?, occurrences, joined}
-use Rattle.repr.proofs.Lists.{cases}
-use Rattle.repr.proofs.Tests.{first?-yes, first?_no, first?-below-none}
+use Rattle.lr1_base.specs.bits.Bits.{bit_at}
+use Rattle.lr1_base.specs.repr.Sizes.{index_limit}
+use Rattle.lr1_base.specs.repr.Lists.{below, first?, occurrences, joined}
+use Rattle.lr1_base.proofs.repr.Lists.{cases}
+use Rattle.lr1_base.proofs.repr.Tests.{first?-yes, first?_no, first?-below-none}
 use Rattle.table.specs.Checked.{Accepted, Refused}
 use Rattle.table.specs.Words.{word_at, records, productions, state_area, production_area, loose, loose_records, production_records, against}
 use Rattle.table.specs.Decoded.{or_zero, production_chain, symbol_chain}

@@ -2,12 +2,12 @@
 use Rattle.std.proofs.Common.{◌≡◌, ◌+◌, ◌*◌, ◌/◌, ◌%◌, ◌<◌, Bool, true, List, [], ◌∷◌, ap, ◌∙◌, arith}
 use mathlib.Core.List.Memᴰ
 use mathlib.Core.List.{Memᴰ}
-use Rattle.repr.specs.Sizes.{index_limit, item_limit}
-use Rattle.repr.specs.Lists.{keep}
-use Rattle.repr.specs.Meaning.{Item, Table, no_production, TableFits, ItemFits, ProductionFits}
-use Rattle.repr.proofs.Lists.{cases, keep-nil, keep-yes, keep_no}
-use Rattle.repr.proofs.Tests.{All_at}
-use Rattle.lr1_core.specs.Places.{item_at_place}
+use Rattle.lr1_base.specs.repr.Sizes.{index_limit, item_limit}
+use Rattle.lr1_base.specs.repr.Lists.{keep}
+use Rattle.lr1_base.specs.repr.Meaning.{Item, Table, no_production, TableFits, ItemFits, ProductionFits}
+use Rattle.lr1_base.proofs.repr.Lists.{cases, keep-nil, keep-yes, keep_no}
+use Rattle.lr1_base.proofs.repr.Tests.{All_at}
+use Rattle.lr1_base.specs.item.Places.{item_at_place}
 
 pub kept_member : (t : Item → Bool) (j : Item) (is : List Item) → Memᴰ j (keep t is) → Memᴰ j is × (t j ≡ true)
 kept_member t j [] m = absurd (Memᴰ.not-nil (rw (keep-nil t) at m))

@@ -2,16 +2,16 @@
 use Rattle.std.proofs.Common.{◌≡◌, ℕ, zero, suc, ◌+◌, ◌*◌, ◌/◌, ◌<◌, ◌≤◌, Bool, true, false, ltb, leb, List, [], ◌∷◌, length, get_or, take, drop, replicate, sym, refl, ap, ◌∙◌, arith, ltb-true, lt-ltb, leb-true}
 use native.Mathlib.Decide.{dec_lt}
 use lib.ListN.{length-replicate}
-use Rattle.repr.specs.Sizes.{nonterminal_limit, terminal_limit, index_limit, item_flags}
-use Rattle.repr.specs.Meaning.{Symbol, Item, Production, no_production, Table, TableFits, ProductionFits, SymbolFits, production_at, All, ItemFits}
-use Rattle.repr.specs.Listed.{symbol_of_kind, listed, symbol_is_fit, list_is_fit}
-use Rattle.repr.specs.Packed.{Packed, symbol_words, production_in, productions_in}
-use Rattle.repr.proofs.Lists.{length-map-below, get_d_map-below}
-use Rattle.repr.proofs.Tests.{All_at}
-use Rattle.repr.proofs.Parts.{symbols_long, fits-drop, fits-take}
-use Rattle.bits.specs.Bits.{bit_at, bit_put}
-use Rattle.bits.proofs.Laws.{put-length, put_here, put_other, zeros_none}
-use Rattle.lr1_core.specs.Items.{symbol_sets}
+use Rattle.lr1_base.specs.repr.Sizes.{nonterminal_limit, terminal_limit, index_limit, item_flags}
+use Rattle.lr1_base.specs.repr.Meaning.{Symbol, Item, Production, no_production, Table, TableFits, ProductionFits, SymbolFits, production_at, All, ItemFits}
+use Rattle.lr1_base.specs.repr.Listed.{symbol_of_kind, listed, symbol_is_fit, list_is_fit}
+use Rattle.lr1_base.specs.repr.Packed.{Packed, symbol_words, production_in, productions_in}
+use Rattle.lr1_base.proofs.repr.Lists.{length-map-below, get_d_map-below}
+use Rattle.lr1_base.proofs.repr.Tests.{All_at}
+use Rattle.lr1_base.proofs.repr.Parts.{symbols_long, fits-drop, fits-take}
+use Rattle.lr1_base.specs.bits.Bits.{bit_at, bit_put}
+use Rattle.lr1_base.proofs.bits.Laws.{put-length, put_here, put_other, zeros_none}
+use Rattle.lr1_base.specs.item.Items.{symbol_sets}
 use Rattle.first.specs.First.{first0, sets_of_first, FIRST, nullable}
 use Rattle.first.specs.declared.Answer.{Answer}
 use Rattle.state_graph.specs.Walk.{walked_back, traced_back}
@@ -19,7 +19,7 @@ use Rattle.trace_graph.specs.Fits.{item_is_fit}
 use Rattle.trace.specs.Traced.{symbols_of, prefix_of, suffix_of}
 use Rattle.trace.specs.Ends.{EndsTo, Ends}
 use Rattle.trace.specs.Edges.{item_at}
-use Rattle.laws.proofs.Bools.{and-true}
+use Rattle.lr1_base.proofs.laws.Bools.{and-true}
 
 -- lists of symbols in words that fit, in parts
 

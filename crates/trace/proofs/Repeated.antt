@@ -1,10 +1,10 @@
 -- A repeated item of a state adds nothing (acceptance R7): the turn of a trace over a state's items is the turn over those that can shift the nonterminal, each once (`shifting` of
 -- specs/Shifting). An item that cannot shift it changes nothing; an item met before changes nothing, since its edges are there and the pairs that it leads to are entered. Assumes nothing.
 use Rattle.std.proofs.Common.{◌≡◌, ℕ, zero, suc, Bool, true, false, eqb, ltb, List, [], ◌∷◌, sym, refl, ap, ◌∙◌, arith, eqb-true}
-use Rattle.repr.specs.Lists.{mem, some?, keep}
-use Rattle.repr.specs.Meaning.{Item, Table, state_at}
-use Rattle.repr.proofs.Lists.{cases, clash, mem-nil, mem_no, mem-cons_here, mem-cons_there, keep-nil, keep-yes, keep_no}
-use Rattle.repr.proofs.Tests.{some?-nil, some?_no}
+use Rattle.lr1_base.specs.repr.Lists.{mem, some?, keep}
+use Rattle.lr1_base.specs.repr.Meaning.{Item, Table, state_at}
+use Rattle.lr1_base.proofs.repr.Lists.{cases, clash, mem-nil, mem_no, mem-cons_here, mem-cons_there, keep-nil, keep-yes, keep_no}
+use Rattle.lr1_base.proofs.repr.Tests.{some?-nil, some?_no}
 use Rattle.first.specs.First.{nullable}
 use Rattle.state_graph.specs.Walk.{traced_back}
 use Rattle.trace_graph.specs.Graph.{Node, at_nonterminal, at_item, same_item, is_same_edge}

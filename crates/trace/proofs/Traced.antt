@@ -4,10 +4,10 @@ use mathlib.Core.List.Memᴰ
 use mathlib.Core.List.{Memᴰ}
 use native.Mathlib.Decide.{dec_lt}
 use lib.ListN.{get_or-eq_default}
-use Rattle.repr.specs.Lists.{mem, some?}
-use Rattle.repr.specs.Meaning.{Item, State, no_state, Table, state_at, production_at, All, TableFits, StateFits, ItemFits}
-use Rattle.repr.proofs.Lists.{cases, clash}
-use Rattle.repr.proofs.Tests.{All_at, some?-nil, some?-yes, some?_no}
+use Rattle.lr1_base.specs.repr.Lists.{mem, some?}
+use Rattle.lr1_base.specs.repr.Meaning.{Item, State, no_state, Table, state_at, production_at, All, TableFits, StateFits, ItemFits}
+use Rattle.lr1_base.proofs.repr.Lists.{cases, clash}
+use Rattle.lr1_base.proofs.repr.Tests.{All_at, some?-nil, some?-yes, some?_no}
 use Rattle.first.specs.First.{nullable}
 use Rattle.state_graph.specs.Walk.{traced_back}
 use Rattle.trace_graph.specs.Graph.{Node, at_nonterminal, at_item, TraceEdge, is_same_node, is_same_edge, add, is_node_of}
@@ -21,7 +21,7 @@ use Rattle.trace.specs.Sound.{apart_ends, owner_of_node, EdgeSound, ShiftStep, R
 use Rattle.trace.proofs.Once.{edge_equal, add_there, add_new, add-all, add_once, once-nil}
 use Rattle.trace.proofs.Grows.{Adds, Grows, grows_some, turn_nil, turn_cons, turn_grows, epsilon_cannot, epsilon_past, epsilon_beginning, epsilon-zero, epsilon-entered, epsilon_new, epsilon_item_grows, epsilon_grows, reduce_cannot, reduce_nullable, reduce_ends, reduce_item_is, reduce_zero, reduce_entered, reduce_new, reduce_item_grows, reduce_state_item_grows, reduce_grows}
 use Rattle.trace.proofs.Fuel.{owner_lt}
-use Rattle.laws.proofs.Bools.{and-true}
+use Rattle.lr1_base.proofs.laws.Bools.{and-true}
 use Rattle.trace_graph.proofs.Labels.{node_refl}
 
 -- a fact of a whole list holds of its members

@@ -3,15 +3,15 @@ use Rattle.std.proofs.Common.{◌≡◌, ℕ, zero, suc, ◌+◌, ◌<◌, ◌�
 use mathlib.Core.Bool.{or-false, or-true}
 use lib.ListN.{length-replicate, get_or-replicate}
 use borrow.Author.Tests.{eqb-false}
-use Rattle.repr.specs.Sizes.{edge_limit}
-use Rattle.repr.specs.Lists.{some?}
-use Rattle.repr.specs.Meaning.{Production}
-use Rattle.repr.proofs.Lists.{cases}
-use Rattle.repr.proofs.Tests.{some?-append, some?-yes, some?_no, some?-nil}
+use Rattle.lr1_base.specs.repr.Sizes.{edge_limit}
+use Rattle.lr1_base.specs.repr.Lists.{some?}
+use Rattle.lr1_base.specs.repr.Meaning.{Production}
+use Rattle.lr1_base.proofs.repr.Lists.{cases}
+use Rattle.lr1_base.proofs.repr.Tests.{some?-append, some?-yes, some?_no, some?-nil}
 use Rattle.trace_graph.specs.Graph.{TraceEdge}
 use Rattle.trace_graph.specs.Words.{edge_at}
-use Rattle.hash_index.specs.Chains.{newest, Linked, chained}
-use Rattle.hash_index.proofs.Chains.{newest-none, newest-yes, newest_no, linked_cons, linked_nil, linked_top, linked_step, chained_long, chain_joined, chain_beside}
+use Rattle.lr1_base.specs.hash_index.Chains.{newest, Linked, chained}
+use Rattle.lr1_base.proofs.hash_index.Chains.{newest-none, newest-yes, newest_no, linked_cons, linked_nil, linked_top, linked_step, chained_long, chain_joined, chain_beside}
 use Rattle.trace_graph.specs.Index.{bucket_number, in_bucket, Indexed, bucket_limit, index_room}
 use Rattle.trace_graph.specs.Values.{first_edges}
 use Rattle.trace_graph.proofs.Words.{first-none, first_more}

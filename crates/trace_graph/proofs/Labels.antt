@@ -2,11 +2,11 @@
 -- Assumes nothing.
 use Rattle.std.proofs.Common.{◌≡◌, ℕ, suc, ◌≤◌, true, ◌&&◌, eqb, List, [], ◌∷◌, length, take, drop, sym, refl, ap, ◌∙◌, true≢false, add-one, arith, take-append-drop, length-take-le, drop-drop, eq-eqb, eqb-true}
 use mathlib.Core.Option.{Option, none, some}
-use Rattle.repr.specs.Meaning.{Symbol, is_same_symbol, Item, Production}
-use Rattle.repr.proofs.SameSymbol.{same_equal, same_refl}
-use Rattle.lr1_core.specs.Items.{Sets, first, symbol_sets}
+use Rattle.lr1_base.specs.repr.Meaning.{Symbol, is_same_symbol, Item, Production}
+use Rattle.lr1_base.proofs.repr.SameSymbol.{same_equal, same_refl}
+use Rattle.lr1_base.specs.item.Items.{Sets, first, symbol_sets}
 use Rattle.trace_graph.specs.Graph.{Node, at_nonterminal, at_item, same_item, is_same_node, TraceEdge, label_of, same_symbols, same_cursor, same_sets, is_same_edge}
-use Rattle.laws.proofs.Bools.{both, and_left, and_right, agree}
+use Rattle.lr1_base.proofs.laws.Bools.{both, and_left, and_right, agree}
 
 -- symbols
 

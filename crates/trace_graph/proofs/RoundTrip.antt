@@ -2,11 +2,11 @@
 -- no edge stands twice. Assumes nothing.
 use Rattle.std.proofs.Common.{◌≡◌, ℕ, zero, suc, ◌+◌, ◌*◌, ◌<◌, ◌≤◌, Bool, true, ◌&&◌, List, [], ◌∷◌, ◌++◌, map, length, get_or, sym, refl, ap, ◌∙◌, append_assoc, append-nil, arith, get_or-append-add, ext_get_or, lt-ltb, le-leb}
 use lib.ListN.{get_or-append}
-use Rattle.repr.specs.Sizes.{edge_limit, edge_room, edge_place}
-use Rattle.repr.specs.Lists.{below, joined}
-use Rattle.repr.specs.Meaning.{Item, Production, All}
-use Rattle.repr.proofs.Lists.{length-map-below, get_d_map-below, joined_cons}
-use Rattle.repr.proofs.Tests.{All_at, every?_below_intro}
+use Rattle.lr1_base.specs.repr.Sizes.{edge_limit, edge_room, edge_place}
+use Rattle.lr1_base.specs.repr.Lists.{below, joined}
+use Rattle.lr1_base.specs.repr.Meaning.{Item, Production, All}
+use Rattle.lr1_base.proofs.repr.Lists.{length-map-below, get_d_map-below, joined_cons}
+use Rattle.lr1_base.proofs.repr.Tests.{All_at, every?_below_intro}
 use Rattle.trace_graph.specs.Graph.{Node, at_nonterminal, at_item, TraceEdge}
 use Rattle.trace_graph.specs.Words.{node_words, edge_words, graph_words, node_of, node_at, edge_at, edges_in}
 use Rattle.trace_graph.specs.Fits.{item_is_fit, node_fits, edge_is_fit, once, graph_fits}

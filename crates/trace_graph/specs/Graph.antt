@@ -2,9 +2,9 @@
 -- Assumes nothing: these are definitions.
 use Rattle.std.specs.Prelude.{ℕ, Bool, true, false, ◌&&◌, List, [], ◌∷◌, ◌++◌, ◌==◌, slice_index_or}
 use Rattle.std.proofs.Math.Option.{Option, none, some}
-use Rattle.repr.specs.Lists.{some?}
-use Rattle.repr.specs.Meaning.{Symbol, is_same_symbol, Item, Production, no_production}
-use Rattle.lr1_core.specs.Items.{Sets, symbol_sets}
+use Rattle.lr1_base.specs.repr.Lists.{some?}
+use Rattle.lr1_base.specs.repr.Meaning.{Symbol, is_same_symbol, Item, Production, no_production}
+use Rattle.lr1_base.specs.item.Items.{Sets, symbol_sets}
 
 -- `TraceGraphNode`
 pub data Node : Type 0 where

@@ -1,9 +1,9 @@
 -- `add_edge` in words: a graph with its index, and what an edge that is added changes.
 -- Assumes nothing: these are definitions.
 use Rattle.std.specs.Prelude.{◌≡◌, ℕ, ◌+◌, ◌<◌, ◌≤◌, Bool, true, false, not, List, length, slice_index, slice_index_or, slice_set}
-use Rattle.repr.specs.Sizes.{edge_limit, graph_room}
-use Rattle.repr.specs.Lists.{some?}
-use Rattle.repr.specs.Meaning.{Production}
+use Rattle.lr1_base.specs.repr.Sizes.{edge_limit, graph_room}
+use Rattle.lr1_base.specs.repr.Lists.{some?}
+use Rattle.lr1_base.specs.repr.Meaning.{Production}
 use Rattle.trace_graph.specs.Graph.{TraceEdge, is_same_edge, add}
 use Rattle.trace_graph.specs.Words.{edge_words, edge_at, edges_in}
 use Rattle.trace_graph.specs.Fits.{edge_is_fit}

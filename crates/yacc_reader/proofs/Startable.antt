@@ -1,4 +1,4 @@
--- What is read stands in the words that were lent, has one empty state, and its start is one of its nonterminals: a start production can be added (crate augment). Assumes nothing.
+-- What is read stands in the words that were lent, has one empty state, and its start is one of its nonterminals: a start production can be added (module start_production of table_rewrite). Assumes nothing.
 use Prim.Native.Nat.{ℕ, ◌*◌, ◌/◌, ◌≤◌, ◌<◌}
 use native.Mathlib.Omega.{arith}
 use mathlib.Core.Bool.{Bool, true, false, ◌||◌, not}
@@ -6,22 +6,22 @@ use mathlib.Core.Path.{◌≡◌, refl, sym, ap, ◌∙◌, subst}
 use mathlib.Core.List.{List, [], ◌∷◌}
 use lib.ListN.{length, take}
 use borrow.Author.Tests.{leb-true}
-use Rattle.repr.specs.Lists.{some?}
-use Rattle.repr.specs.Meaning.{All, Table}
-use Rattle.repr.specs.declared.NonterminalString.{NonterminalString}
-use Rattle.repr.proofs.Tests.{some?-cons}
+use Rattle.lr1_base.specs.repr.Lists.{some?}
+use Rattle.lr1_base.specs.repr.Meaning.{All, Table}
+use Rattle.lr1_base.specs.declared.repr.NonterminalString.{NonterminalString}
+use Rattle.lr1_base.proofs.repr.Tests.{some?-cons}
 use Rattle.table.specs.Decoded.{meaning}
-use Rattle.spelling.specs.Spelled.{records_of}
-use Rattle.augment.specs.Started.{Startable}
-use Rattle.yacc_text.specs.Grammar.{Id}
-use Rattle.yacc_read.specs.Source.{Known, is_known, Alternative, Source}
-use Rattle.yacc_read.specs.Meaning.{table_of, start_of}
-use Rattle.yacc_read.specs.Outcome.{undefined_use, named_both_ways, undefined_start, misnamed, room, answer_of, source_in, read_of, read_as}
-use Rattle.yacc_read.specs.declared.Reading.{Reading}
-use Rattle.yacc_read.proofs.Known.{number-below}
-use Rattle.yacc_read.proofs.Fits.{Good, count_nonterminals}
-use Rattle.yacc_read.proofs.Read.{same_reading, was_read, front-meaning}
-use Rattle.laws.proofs.Bools.{or-none, and-true}
+use Rattle.table_rewrite.specs.spelling.Spelled.{records_of}
+use Rattle.table_rewrite.specs.start_production.Started.{Startable}
+use Rattle.yacc_syntax.specs.text.Grammar.{Id}
+use Rattle.yacc_reader.specs.parsed_file.Source.{Known, is_known, Alternative, Source}
+use Rattle.yacc_reader.specs.parsed_file.Meaning.{table_of, start_of}
+use Rattle.yacc_reader.specs.parsed_file.Outcome.{undefined_use, named_both_ways, undefined_start, misnamed, room, answer_of, source_in, read_of, read_as}
+use Rattle.yacc_reader.specs.declared.parsed_file.Reading.{Reading}
+use Rattle.yacc_reader.proofs.parsed_file.Known.{number-below}
+use Rattle.yacc_reader.proofs.parsed_file.Fits.{Good, count_nonterminals}
+use Rattle.yacc_reader.proofs.parsed_file.Read.{same_reading, was_read, front-meaning}
+use Rattle.lr1_base.proofs.laws.Bools.{or-none, and-true}
 
 known : (a : Bool) → not a ≡ false → a ≡ true
 known true e = refl

@@ -10,24 +10,24 @@ use lib.Dec.{leb}
 use lib.ListN.{length, get_or, drop, drop_of_length-le}
 use lib.Seq.{drop-cons, length-sets}
 use borrow.Author.Tests.{le-leb, lt-leb}
-use Rattle.slices.specs.Lent.{in_front}
-use Rattle.repr.specs.Reply.{answered, refused}
-use Rattle.repr.specs.Sizes.{nonterminal_limit, terminal_limit, symbol_limit, production_place}
-use Rattle.repr.specs.Lists.{up_from, below, joined}
-use Rattle.repr.specs.Meaning.{Symbol, terminal, Production, Table}
-use Rattle.repr.specs.Listed.{listed, list_is_fit}
-use Rattle.repr.specs.Packed.{Packed, symbol_words, production_in, productions_in}
-use Rattle.repr.proofs.Packed.{words_long}
+use Rattle.lr1_base.specs.words.Lent.{in_front}
+use Rattle.lr1_base.specs.repr.Reply.{answered, refused}
+use Rattle.lr1_base.specs.repr.Sizes.{nonterminal_limit, terminal_limit, symbol_limit, production_place}
+use Rattle.lr1_base.specs.repr.Lists.{up_from, below, joined}
+use Rattle.lr1_base.specs.repr.Meaning.{Symbol, terminal, Production, Table}
+use Rattle.lr1_base.specs.repr.Listed.{listed, list_is_fit}
+use Rattle.lr1_base.specs.repr.Packed.{Packed, symbol_words, production_in, productions_in}
+use Rattle.lr1_base.proofs.repr.Packed.{words_long}
 use Rattle.table.specs.Checked.{Accepted, Refused as No}
 use Rattle.table.specs.Decoded.{meaning, productions_from}
 use Rattle.table.specs.Refusals.{check_of}
 use Rattle.table.proofs.Written.{productions_end as no-productions}
-use Rattle.yacc_write.specs.Text.{ascending, text_of}
-use Rattle.yacc_write.specs.Outcome.{written_of, write_of}
+use Rattle.yacc_writer.specs.text.Text.{ascending, text_of}
+use Rattle.yacc_writer.specs.text.Outcome.{written_of, write_of}
 use Rattle.yacc_writer.specs.Wrote.{Wrote, name_bytes, terminal_bytes, production_bytes, file_bytes}
 use Rattle.yacc_writer.proofs.Laws.{Left, left_all_lem, left_less, left-none, wrote_as, wrote-front}
 use Rattle.yacc_writer.proofs.Texts.{text_bytes}
-use Rattle.repr.proofs.Lists.{up_from_more, up_from_end}
+use Rattle.lr1_base.proofs.repr.Lists.{up_from_more, up_from_end}
 
 pub left_long : {a b : List ℕ} {at m : ℕ} {whole rest : List ℕ} → Left a at whole b m rest → length b ≡ length a
 left_long {a} {b} {at} {m} {whole} {rest} L = sym (length-sets b m rest) ∙ ap length L.is ∙ length-sets a at whole

@@ -157,7 +157,7 @@ fn marked(side: &str) -> bool {
         ("choose 3 0 0 0 / 0", "= 0 1 0 2 1 0"),
         ("list 1 0 / - / 0", "= 15 0"),
     ];
-    // Table C: those that crates/lihvemur/proofs/Marked states.
+    // Table C: those that crates/lihvemur_c/proofs/Marked states.
     let beside: [(&str, &str); 9] = [
         (
             "shift 1 2 0",

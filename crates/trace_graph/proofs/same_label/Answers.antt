@@ -2,7 +2,7 @@ use Rattle.std.proofs.Common.{sym, ◌∙◌, eq-eqb, ne_eqb}
 use Rattle.trace_graph.proofs.Fits.{Labels, left_below, right_below, label_one, label_index, label_words_lem}
 use Rattle.trace_graph.proofs.same_label.Goals as goal
 use Rattle.trace_graph.proofs.same_label.Goals.{Start}
-use Rattle.slices.proofs.Same.{same_pointwise}
+use Rattle.lr1_base.proofs.words.Same.{same_pointwise}
 
 labels : (S : Start) → Labels S.args.grammar.words.now S.args.grammar.productions S.args.a.production S.args.a.index S.args.b.production S.args.b.index
 labels S = record { packed = S.args.grammar.packed; left = S.requires.0; right = S.requires.1 }
