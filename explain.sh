@@ -8,8 +8,8 @@ file=$(realpath "$1")
 cd "$(dirname "$0")"
 case $file in
     *.y) programs="yacc states explain" ;;
-    *.grammar) programs="words states explain" ;;
-    *) programs="words explain" ;;
+    *.grammar) programs="parse_words states explain" ;;
+    *) programs="parse_words explain" ;;
 esac
 for p in $programs; do
     # (what it answers to no input is of no use)

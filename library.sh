@@ -32,5 +32,5 @@ done
 for rlib in "$top"/crates/*/out/rlib; do
     words+=(-L "dependency=$rlib")
 done
-"$kit/bin/rattle" build --crate-name lihvemur_c src/lib.rt --extern std="$kit/rlibs/std.rlib" -L dependency="$kit/rlibs" "${words[@]}" \
+"$kit/bin/rattle" build --jobs 4 --crate-name lihvemur_c src/lib.rt --extern std="$kit/rlibs/std.rlib" -L dependency="$kit/rlibs" "${words[@]}" \
     --antt-project "$kit/rattle/logic/antt-project.json" --logic-built "$kit/logic_built" --links lihvemur_c= --crate-type staticlib --toolchain "$kit/toolchain" -o "$to"

@@ -1,5 +1,5 @@
 #!/usr/bin/env bash
-# The test command: stored edits, `rt ci` (layout, each crate proved from nothing, each must-fail edit, each program against its stored output), the arrays that classifying reaches, the C entries, the tables.
+# The test command: stored edits, `rt ci` (layout, each crate proved from nothing, each must-fail edit, each program against its stored output), the arrays that classifying reaches, the C entries and the stored sample through them, the tables.
 # The last line is that of `rt ci`, 'N passed, 0 failed', held back until what comes after it has passed too; where anything fails it is another.
 set -euo pipefail
 cd "$(dirname "$0")"
@@ -43,6 +43,14 @@ tests/arrays.py >"$work/arrays" || { cat "$work/arrays"; exit 1; }
 tail -n 1 "$work/arrays"
 ./library.sh --after-ci "$work" >"$work/library" 2>&1 || { cat "$work/library"; exit 1; }
 cc -std=c11 -Wall -Wextra -Werror -Iinclude tests/c/entries.c "$work/liblihvemur.a" -o "$work/c-entries"
+cc -std=c11 -O1 -Wall -Wextra -Werror -Iinclude tests/c/replay.c "$work/liblihvemur.a" -o "$work/c-replay"
+"$work/c-replay" <tests/sample/requests >"$work/answers"
+cmp "$work/answers" tests/sample/answers
+echo "$(wc -l <tests/sample/answers) stored answers are those of the C entries"
 "$work/c-entries"
+cc -std=c11 -O1 -Wall -Wextra -Werror -Iinclude tests/c/replay.c "$work/liblihvemur.a" -o "$work/c-replay"
+"$work/c-replay" <tests/sample/requests >"$work/answers"
+cmp "$work/answers" tests/sample/answers
+echo "$(wc -l <tests/sample/answers) stored answers are those of the C entries"
 tables/check.sh
 cat "$work/last"

@@ -9,7 +9,7 @@ count=${2:-200}
 log=$(mktemp)
 trap 'rm -f "$log"' EXIT
 ./library.sh target/c
-for p in explain states replay; do
+for p in explain states; do
     [ -x "crates/$p/out/$p" ] || (cd "crates/$p" && rt run </dev/null >/dev/null) || [ -x "crates/$p/out/$p" ]
 done
 PORT_LIB=target/c sh oracle/build.sh

@@ -20,8 +20,8 @@ put() { # FILE OLD NEW
 }
 
 weak() { # WHAT BASE, whose BASE was before
-    put crates/outline/specs/Outline.antt "print_base = $3" "print_base = $2"
-    put crates/outline/src/lib.rt "BASE: u64 = $3;" "BASE: u64 = $2;"
+    put crates/conflict_sides/specs/outline/Outline.antt "print_base = $3" "print_base = $2"
+    put crates/conflict_sides/src/outline.rt "BASE: u64 = $3;" "BASE: u64 = $2;"
     echo "prints.sh: $1"
     ./library.sh target/c | tail -n 1
     PORT_LIB=$copy/target/c sh oracle/build.sh | tail -n 1
@@ -31,7 +31,7 @@ weak() { # WHAT BASE, whose BASE was before
     done
 }
 
-put crates/outline/specs/Outline.antt "symbol_code kind number = 64 * kind + number + 1" "symbol_code kind number = 0 * kind + 0 + 1"
-put crates/outline/src/lib.rt "(Outline::KIND * kind + number + 1)" "(0 * kind + 0 + 1)"
+put crates/conflict_sides/specs/outline/Outline.antt "symbol_code kind number = 64 * kind + number + 1" "symbol_code kind number = 0 * kind + 0 + 1"
+put crates/conflict_sides/src/outline.rt "(Outline::KIND * kind + number + 1)" "(0 * kind + 0 + 1)"
 weak "all equal" 0 25173
 weak "equal where cursor and number of places add up alike" 1 0

@@ -4,10 +4,12 @@
 # Each 'old:' text stands once in its file. The last line is 'N passed, M failed'.
 set -eu
 here=$(cd "$(dirname "$0")" && pwd)
-replay=$(dirname "$here")/crates/replay
+top=$(dirname "$here")
 work=$(mktemp -d)
 trap 'rm -rf "$work"' EXIT
 mkdir "$work/incremental"
+cat "$top/tests/sample/requests" "$top/crates/item_sets/stdin" >"$work/requests"
+cat "$top/tests/sample/answers" "$top/crates/item_sets/stdout" >"$work/answers"
 passed=0
 failed=0
 
@@ -37,7 +39,7 @@ PY
     fi
     rustc --edition 2024 -A warnings -C opt-level=1 -C incremental="$work/incremental" \
         -o "$work/reader" "$work/readings/reader.rs" 2>"$work/errors" || { echo "not built:"; cat "$work/errors"; return 1; }
-    timeout 300 "$work/reader" "$replay/stdin" "$replay/stdout" || { echo "not answered"; return 1; }
+    timeout 300 "$work/reader" "$work/requests" "$work/answers" || { echo "not answered"; return 1; }
 }
 
 # Name, edit, whether answers must change.

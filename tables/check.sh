@@ -1,5 +1,5 @@
 #!/bin/sh
-# Tries the built programs yacc, unyacc, words, states, explain, respell, text and compact on the tables of this folder and on inputs made here, and compares what they write.
+# Tries the built programs yacc, unyacc, parse_words, states, explain, respell, print_table and compact on the tables of this folder and on inputs made here, and compares what they write.
 # Where an expected output comes from: TABLE.out is what the Rust's explaining program writes for that table (`oracle explain`, oracle/README.md),
 # and so is every expected line below that is not a refusal; the refusals are document 01's rows, applied by hand where they stand.
 # GRAMMAR.out is what that program writes for the states and conflicts of the oracle's own reader of request 01, YACC.y.out what it writes for those of `yacc | states`, which the oracle's readers are compared with elsewhere; .err is what `explain.sh` says.
@@ -26,7 +26,7 @@ explains() { # name
 
 # Text typed as a table, as words.
 typed() {
-    crates/words/out/words >"$work/input" 2>"$work/unread" && [ ! -s "$work/unread" ]
+    crates/parse_words/out/parse_words >"$work/input" 2>"$work/unread" && [ ! -s "$work/unread" ]
 }
 
 # Table B of document 01, its 96 words; a word may be put at a place.
@@ -49,9 +49,9 @@ through() { # program
 for t in tables/*.txt; do
     typed <"$t"
     cp "$work/input" "$work/given"
-    through text
+    through print_table
     verdict "$t as text" $?
-    crates/words/out/words <"$work/output" | cmp -s - "$work/given"
+    crates/parse_words/out/parse_words <"$work/output" | cmp -s - "$work/given"
     verdict "$t as text, read back" $?
     through respell
     verdict "$t written afresh" $?
@@ -67,9 +67,9 @@ done
     echo '14 0 0 0  0 1 0 0  0 0 1 0  17 0 2 0  18 0 0 0  0 1 0 0  20 0 3 0  0 0 1 0  0 0 0 1  0 1 0 2  0 0 0 3  0 1 0 2  3 0 0 0 0'
 } | typed
 through respell
-crates/text/out/text <"$work/output" >"$work/expected"
+crates/print_table/out/print_table <"$work/output" >"$work/expected"
 typed <tables/table_b.txt
-through text
+through print_table
 cmp -s "$work/output" "$work/expected"
 verdict "two layouts of table B, one text" $?
 
@@ -80,9 +80,9 @@ refuses() { # program, refusal and place
     verdict "$1 refused $2" $?
 }
 table_b 48 12 | typed
-for p in respell text compact states unyacc; do refuses "$p" '3 12'; done
+for p in respell print_table compact states unyacc; do refuses "$p" '3 12'; done
 : >"$work/input"
-for p in respell text compact states unyacc; do refuses "$p" '1 0'; done
+for p in respell print_table compact states unyacc; do refuses "$p" '1 0'; done
 # states already given; a start production out of range, and none
 { table_b; echo 0; } | typed
 refuses states '18 0'
@@ -134,7 +134,7 @@ empties() { # how many
         print 0
     }'
 }
-awk 'BEGIN { for (p = 64; p < 110; p++) for (q = p + 1; q < 110; q++) for (t = 0; t < 63; t++) print 0, p, 1, q, t }' | crates/words/out/words >"$work/expected"
+awk 'BEGIN { for (p = 64; p < 110; p++) for (q = p + 1; q < 110; q++) for (t = 0; t < 63; t++) print 0, p, 1, q, t }' | crates/parse_words/out/parse_words >"$work/expected"
 empties 46 | typed
 through states && tail -c "$(wc -c <"$work/expected")" "$work/output" | cmp -s - "$work/expected"
 verdict "65,205 conflicts" $?
@@ -372,7 +372,7 @@ says() { # name, part of what is said
 }
 crates/explain/out/explain <"$work/one" >/dev/full 2>"$work/said"
 says "explain to a full device" 'standard output'
-crates/words/out/words <tables/table_b.txt >/dev/full 2>"$work/said"
+crates/parse_words/out/parse_words <tables/table_b.txt >/dev/full 2>"$work/said"
 says "words to a full device" 'standard output'
 # A program says that it cannot write the answer to the input, nor read a folder, of which it writes nothing.
 fails() { # program
@@ -384,7 +384,7 @@ fails() { # program
     verdict "$1 of a folder, nothing written" $?
 }
 cp "$work/one" "$work/input"
-for p in respell text; do fails "$p"; done
+for p in respell print_table; do fails "$p"; done
 typed <tables/sum.grammar
 for p in states unyacc; do fails "$p"; done
 cp tables/sum.y "$work/input"
@@ -393,7 +393,7 @@ crates/explain/out/explain <tables >"$work/output" 2>"$work/said"
 says "explain of a folder" 'standard input'
 [ ! -s "$work/output" ]
 verdict "explain of a folder, nothing written" $?
-crates/words/out/words <tables >"$work/input" 2>"$work/said"
+crates/parse_words/out/parse_words <tables >"$work/input" 2>"$work/said"
 says "words of a folder" 'standard input'
 echo '0 refused 1 0' >"$work/expected"
 explains "words of a folder, explained"

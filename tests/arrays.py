@@ -1,5 +1,5 @@
 #!/usr/bin/env python3
-"""Arrays of the functions that `report::classify` and `report::choose` reach, read from the MIR of the proved libraries (crates/NAME/out/rlib, the toolchain's for std).
+"""Arrays of the functions that `conflicts::classify` and `conflicts::choose` reach, read from the MIR of the proved libraries (crates/NAME/out/rlib, the toolchain's for std).
 
     tests/arrays.py [LIMIT]      the table: every array of every function reached, with its elements and its words of 16 bits; fails where one has above LIMIT (2000) of either
     tests/arrays.py --selftest   a planted array of 2,001 words in a function reached makes one finding more, one of 2,000 or in a function that is not reached none
@@ -15,8 +15,8 @@ import shutil
 import subprocess
 import sys
 
-CRATE = "report"
-ROOTS = ["report::classify", "report::choose"]
+CRATE = "conflicts"
+ROOTS = ["conflicts::classify", "conflicts::choose"]
 LIMIT = 2000
 TOP = os.path.dirname(os.path.dirname(os.path.abspath(__file__)))
 

@@ -4,12 +4,12 @@ use mathlib.Core.List.{List}
 use Prim.Native.Nat.{ℕ, ◌*◌, ◌≤◌}
 use native.Mathlib.Omega.{arith}
 use lib.ListN.{length}
-use Rattle.repr.specs.Sizes.{record_limit}
-use Rattle.repr.specs.Reply.{Reply, answered}
+use Rattle.lr1_base.specs.repr.Sizes.{record_limit}
+use Rattle.lr1_base.specs.repr.Reply.{Reply, answered}
 use Rattle.table.proofs.Accepted.{accepts}
-use Rattle.compaction.specs.Outcome.{compact_of}
-use Rattle.compaction.proofs.Called.{left, left-length}
-use Rattle.compaction.proofs.Theorems.{count_most}
+use Rattle.table_rewrite.specs.compaction.Outcome.{compact_of}
+use Rattle.table_rewrite.proofs.compaction.Called.{left, left-length}
+use Rattle.table_rewrite.proofs.compaction.Theorems.{count_most}
 
 pub few_left : (t ws : List ℕ) (r : Reply ℕ) (n : ℕ) → record { answer = r; table = ws } ≡ compact_of t → r ≡ answered n → (n ≤ record_limit) × (n * 4 ≤ length ws)
 few_left t ws r n e h =

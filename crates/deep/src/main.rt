@@ -9,7 +9,7 @@
 ghost use Rattle.std.specs.Prelude.{◌≡◌, ◌+◌, ◌*◌, ◌≤◌, ◌<◌};
 
 use lr1::{backtrace_reduce, backtrace_shift};
-use repr::{ProductionIndex, Refusal};
+use lr1_base::repr::{ProductionIndex, Refusal};
 use state_graph::StateIndex;
 use trace_graph::TraceGraph;
 

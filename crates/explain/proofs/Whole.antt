@@ -7,37 +7,37 @@ use mathlib.Core.List.{List, [], ◌∷◌, ◌++◌, map}
 use mathlib.Core.Option.{Option, none, some}
 use lib.ListN.{length, drop, take, length-append}
 use lib.Dec.{eqb, ltb, leb}
-use Rattle.repr.specs.Sizes.{edge_limit, classify_scratch, trial_limit, reduction_limit, example_room, example_limit}
-use Rattle.slices.specs.Lent.{in_front}
-use Rattle.repr.specs.Lists.{keep, joined, first?}
-use Rattle.repr.specs.Meaning.{All, Symbol, Item, Production, Table, production_at}
-use Rattle.repr.proofs.Lists.{cases, length_mapped, keep-nil, keep-yes, keep_no}
-use Rattle.repr.proofs.Tests.{first?-nil, first?-yes, first?_no}
+use Rattle.lr1_base.specs.repr.Sizes.{edge_limit, classify_scratch, trial_limit, reduction_limit, example_room, example_limit}
+use Rattle.lr1_base.specs.words.Lent.{in_front}
+use Rattle.lr1_base.specs.repr.Lists.{keep, joined, first?}
+use Rattle.lr1_base.specs.repr.Meaning.{All, Symbol, Item, Production, Table, production_at}
+use Rattle.lr1_base.proofs.repr.Lists.{cases, length_mapped, keep-nil, keep-yes, keep_no}
+use Rattle.lr1_base.proofs.repr.Tests.{first?-nil, first?-yes, first?_no}
 use Rattle.table.specs.Checked.{Checked, Accepted, Refused as NotAccepted}
 use Rattle.table.specs.Decoded.{meaning}
 use Rattle.table.specs.Refusals.{check_of}
 use Rattle.table.proofs.Decoding.{fits}
-use Rattle.lookahead.specs.Tokens.{single}
+use Rattle.lr1_base.specs.lookahead.Tokens.{single}
 use Rattle.trace_graph.specs.Graph.{TraceEdge, at_item}
 use Rattle.trace.specs.Shift.{shift_edges}
 use Rattle.trace.specs.Reduce.{reduce_edges}
-use Rattle.example.specs.Example.{example_words}
-use Rattle.example.proofs.Sizes.{Short, short_of_lem, at_most_528, length-words}
-use Rattle.enumerator.specs.Trials.{Path, AllPaths, ends_of, trials}
-use Rattle.enumerator.specs.Lister.{hands, label_at, labels_of}
-use Rattle.enumerator.proofs.Short.{at_most_33}
-use Rattle.error.specs.declared.Conflict.{Conflict}
-use Rattle.error.specs.declared.Class.{Class}
-use Rattle.error.specs.declared.Class.TheVariants.{Naive, Ambiguity, Precedence, SuggestInline, InsufficientLookahead}
-use Rattle.error.specs.Numbers.{number_of_class, Reading}
-use Rattle.error.specs.Items.{shift_items}
-use Rattle.error.specs.Order.{Permutation, empty, alike, swap, through}
-use Rattle.error.specs.Sides.{Side, gathered, stopped, listing_side, with_more, examples_in, shift_side_from, shift_side, item_of_reduce, reduce_side, action_side_of, Gathered, sides, halted, both_sides, gather}
-use Rattle.error.specs.Sorted.{sorted_by, Pair, product, first_fit}
-use Rattle.error.specs.Judge.{Example, Judged, with_both, symbol_count, reduction_at, is_same_reading, is_operator_of, ambiguity_of_shift, ambiguity_of_reduce, ambiguity_of, question_of, suggest_question, inlines, inline_or, question_or, unambiguous, ambiguous_or, judge, judged}
-use Rattle.error.specs.Outcome.{Outcome, outcome, shown, judged_outcome, judged_with, gathered_outcome, gathered_with, conflict_fits, shifts_end, classified_in, classify_in_with, classify_by, classify_by_with, classify_of, classify_with}
-use Rattle.error.proofs.Sorted.{sorted_permutation}
-use Rattle.lines.specs.Lines.{Whole, ReadingShown}
+use Rattle.enumerator.specs.example.Example.{example_words}
+use Rattle.enumerator.proofs.example.Sizes.{Short, short_of_lem, at_most_528, length-words}
+use Rattle.enumerator.specs.trials.Trials.{Path, AllPaths, ends_of, trials}
+use Rattle.enumerator.specs.trials.Lister.{hands, label_at, labels_of}
+use Rattle.enumerator.proofs.trials.Short.{at_most_33}
+use Rattle.conflict_sides.specs.declared.conflict.Conflict.{Conflict}
+use Rattle.conflict_sides.specs.declared.conflict.Class.{Class}
+use Rattle.conflict_sides.specs.declared.conflict.Class.TheVariants.{Naive, Ambiguity, Precedence, SuggestInline, InsufficientLookahead}
+use Rattle.conflict_sides.specs.conflict.Numbers.{number_of_class, Reading}
+use Rattle.conflict_sides.specs.conflict.Items.{shift_items}
+use Rattle.conflict_sides.specs.conflict.Order.{Permutation, empty, alike, swap, through}
+use Rattle.conflict_sides.specs.conflict.Sides.{Side, gathered, stopped, listing_side, with_more, examples_in, shift_side_from, shift_side, item_of_reduce, reduce_side, action_side_of, Gathered, sides, halted, both_sides, gather}
+use Rattle.conflict_sides.specs.conflict.Sorted.{sorted_by, Pair, product, first_fit}
+use Rattle.conflict_sides.specs.conflict.Judge.{Example, Judged, with_both, symbol_count, reduction_at, is_same_reading, is_operator_of, ambiguity_of_shift, ambiguity_of_reduce, ambiguity_of, question_of, suggest_question, inlines, inline_or, question_or, unambiguous, ambiguous_or, judge, judged}
+use Rattle.conflict_sides.specs.conflict.Outcome.{Outcome, outcome, shown, judged_outcome, judged_with, gathered_outcome, gathered_with, conflict_fits, shifts_end, classified_in, classify_in_with, classify_by, classify_by_with, classify_of, classify_with}
+use Rattle.conflict_sides.proofs.conflict.Sorted.{sorted_permutation}
+use Rattle.output_text.specs.conflict_lines.Lines.{Whole, ReadingShown}
 use Rattle.explain.specs.Printed.{OutcomeShown}
 
 -- at most 33 labels

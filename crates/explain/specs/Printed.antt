@@ -1,8 +1,8 @@
 -- The input's conflicts, and the lines that are printed of an outcome. Assumes nothing: these are definitions.
 use Rattle.std.specs.Prelude.{ℕ, ◌+◌, ◌*◌, ◌≤◌, ◌≡◌, List, length, get_or, take}
-use Rattle.error.specs.Outcome.{Outcome, outcome}
-use Rattle.error.specs.declared.Conflict.{Conflict}
-use Rattle.lines.specs.Lines.{lines_of, ReadingShown}
+use Rattle.conflict_sides.specs.conflict.Outcome.{Outcome, outcome}
+use Rattle.conflict_sides.specs.declared.conflict.Conflict.{Conflict}
+use Rattle.output_text.specs.conflict_lines.Lines.{lines_of, ReadingShown}
 
 -- conflict k of some words, five each
 unfoldable pub nth_conflict : List ℕ → ℕ → Conflict

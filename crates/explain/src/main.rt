@@ -3,21 +3,21 @@
 #![tactic(auto)]
 
 ghost use Rattle.std.specs.Prelude.{◌≡◌, ◌+◌, ◌*◌, ◌≤◌, ◌<◌, length};
-ghost use Rattle.error.specs.Outcome.{classify_of};
+ghost use Rattle.conflict_sides.specs.conflict.Outcome.{classify_of};
 ghost use Rattle.explain.specs.Printed.{nth_conflict, Prints};
 
-use error::Conflict;
-use example::Example;
-use lines::{lines, refused_line};
-use little::decode;
-use pipe::{
+use conflict_sides::conflict::Conflict;
+use conflicts::classify;
+use enumerator::example::Example;
+use lr1_base::le_words::decode;
+use lr1_base::repr::{ProductionIndex, Refusal};
+use output_text::conflict_lines::{lines, refused_line};
+use program_io::streams::{Failed, PIECES, read, write};
+use program_io::table_stream::{
     BYTES, PIECE, PIECE_BYTES, PIECE_WORDS, Stop, WORDS, WORDS_OF_CONFLICT, read_table_words,
 };
-use report::classify;
-use repr::{ProductionIndex, Refusal};
 use state_graph::StateIndex;
 use std::io;
-use streams::{Failed, PIECES, read, write};
 use table_check::check;
 
 // Bytes for the lines of a conflict, and for the line of a refusal.
@@ -90,7 +90,7 @@ fn explain_some<R: Print + Eprint>(
     Ok(())
 }
 
-// A piece of the conflicts; whether there may be more, a yes or no that a failing read or write does not answer (what is said of a piece stays in the loop, here and in crate text: a closure that writes and may fail is no plainer). A conflict cut short is refusal 9, and the last.
+// A piece of the conflicts; whether there may be more, a yes or no that a failing read or write does not answer (what is said of a piece stays in the loop, here and in crate print_table: a closure that writes and may fail is no plainer). A conflict cut short is refusal 9, and the last.
 fn explain_piece<R: io::Input + Print + Eprint>(
     rt: &R,
     table: &[u16],

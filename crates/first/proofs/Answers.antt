@@ -6,11 +6,11 @@ use mathlib.Core.List.{List, [], ◌++◌}
 use Prim.Native.Nat.{ℕ}
 use lib.Dec.{eqb}
 use borrow.Author.Tests.{eq-eqb}
-use Rattle.repr.specs.Meaning.{Symbol, Table}
-use Rattle.repr.proofs.Lists.{cases}
-use Rattle.lookahead.specs.Tokens.{has, single, union, without}
-use Rattle.lookahead.proofs.Laws.{has-union, has-single, has-without}
-use Rattle.lookahead.proofs.Sets.{same_set, empty-set, union_assoc, union-zero-left, union-zero_right}
+use Rattle.lr1_base.specs.repr.Meaning.{Symbol, Table}
+use Rattle.lr1_base.proofs.repr.Lists.{cases}
+use Rattle.lr1_base.specs.lookahead.Tokens.{has, single, union, without}
+use Rattle.lr1_base.proofs.lookahead.Laws.{has-union, has-single, has-without}
+use Rattle.lr1_base.proofs.lookahead.Sets.{same_set, empty-set, union_assoc, union-zero-left, union-zero_right}
 use Rattle.first.specs.declared.Answer.{Answer}
 use Rattle.first.specs.First.{join, marked_at_end, unmarked, first0, followed, join_answers, empty_answer, FIRST, sets_of_first}
 use Rattle.first.proofs.Join.{join_null, join_own, has-join_end, end_marked-nil, end_marked-append}

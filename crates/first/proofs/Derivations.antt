@@ -1,7 +1,7 @@
 -- Derivations of specs/Derives: one after the other, inside a context, and a production's own. Assumes nothing.
 use mathlib.Core.Path.{◌≡◌, refl, ap, ◌∙◌, subst}
 use mathlib.Core.List.{List, [], ◌∷◌, ◌++◌, append_assoc, append-nil, Memᴰ}
-use Rattle.repr.specs.Meaning.{Symbol, nonterminal, Production}
+use Rattle.lr1_base.specs.repr.Meaning.{Symbol, nonterminal, Production}
 use Rattle.first.specs.Derives.{Derives, done, step}
 
 pub derives_trans : {ps : List Production} {xs ys zs : List Symbol} → Derives ps xs ys → Derives ps ys zs → Derives ps xs zs

@@ -2,9 +2,9 @@
 use mathlib.Core.Bool.{true, false}
 use mathlib.Core.Path.{◌≡◌, refl}
 use mathlib.Core.List.{[], ◌∷◌}
-use Rattle.slices.specs.Same.{same_words}
-use Rattle.repr.specs.Meaning.{nonterminal, terminal, Table}
-use Rattle.lookahead.specs.Tokens.{has, single, union, without}
+use Rattle.lr1_base.specs.words.Same.{same_words}
+use Rattle.lr1_base.specs.repr.Meaning.{nonterminal, terminal, Table}
+use Rattle.lr1_base.specs.lookahead.Tokens.{has, single, union, without}
 use Rattle.first.specs.First.{join, first_of, marked_at_end, unmarked, first0, grown, round, settle, sets_of_first, FIRST}
 
 -- E → E + E, E → n; the terminals are + and n

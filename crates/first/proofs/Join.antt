@@ -8,11 +8,11 @@ use Prim.Native.Nat.{ℕ, ◌^◌, ◌<◌}
 use lib.Dec.{eqb}
 use lib.ListN.{get_or}
 use borrow.Author.Tests.{eqb-true, eqb-false, eq-eqb, ne_eqb}
-use Rattle.repr.specs.Meaning.{Symbol, nonterminal, terminal, All}
-use Rattle.repr.proofs.Lists.{cases, clash}
-use Rattle.lookahead.specs.Tokens.{has, single, union, without, Within}
-use Rattle.lookahead.proofs.Laws.{has-union, has-without, without_no, has-single, union_lt, without_lt, single_lt}
-use Rattle.lookahead.proofs.Sets.{same_set, within_refl}
+use Rattle.lr1_base.specs.repr.Meaning.{Symbol, nonterminal, terminal, All}
+use Rattle.lr1_base.proofs.repr.Lists.{cases, clash}
+use Rattle.lr1_base.specs.lookahead.Tokens.{has, single, union, without, Within}
+use Rattle.lr1_base.proofs.lookahead.Laws.{has-union, has-without, without_no, has-single, union_lt, without_lt, single_lt}
+use Rattle.lr1_base.proofs.lookahead.Sets.{same_set, within_refl}
 use Rattle.first.specs.First.{join, first_of, marked_at_end, unmarked, first0, followed, first1}
 
 -- the two ways

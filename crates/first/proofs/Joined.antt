@@ -3,9 +3,9 @@ use mathlib.Core.Path.{◌≡◌, sym, ap, ◌∙◌}
 use mathlib.Core.List.{List, [], ◌∷◌, ◌++◌}
 use Prim.Native.Nat.{ℕ, ◌-◌, ◌%◌, ◌<◌}
 use lib.ListN.{length, get_or, take}
-use Rattle.repr.specs.Meaning.{Symbol}
-use Rattle.repr.specs.Listed.{listed}
-use Rattle.repr.proofs.Joined.{behind, listed-append, listed_straddled}
+use Rattle.lr1_base.specs.repr.Meaning.{Symbol}
+use Rattle.lr1_base.specs.repr.Listed.{listed}
+use Rattle.lr1_base.proofs.repr.Joined.{behind, listed-append, listed_straddled}
 use Rattle.first.specs.declared.Answer.{Answer}
 use Rattle.first.specs.First.{first0, join_answers}
 use Rattle.first.proofs.Answers.{join_answers_assoc, first0-append}

@@ -9,16 +9,16 @@ use lib.Dec.{eqb, ltb}
 use lib.ListN.{length, get_or, replicate, length-set}
 use lib.Seq.{get_or-set_same, get_or-set_other, set_out, ext_get_or}
 use borrow.Author.Tests.{eqb-true, eqb-false, ltb-true, ltb-false}
-use Rattle.repr.specs.Sizes.{nonterminal_limit, terminal_limit}
-use Rattle.repr.proofs.Tests.{All-map, All_member}
-use Rattle.lookahead.proofs.Growing.{Inside, inside_refl, inside_trans, inside_antisym, inside-none, same_between, total, total_inside, Sized, none_sized, total_lt}
-use Rattle.slices.proofs.Same.{same_words_eq, eq_same_words}
-use Rattle.slices.specs.Same.{same_words}
-use Rattle.repr.specs.Meaning.{Symbol, nonterminal, terminal, Production, Table, SymbolFits, All, ProductionFits, TableFits}
-use Rattle.repr.proofs.Lists.{cases}
-use Rattle.lookahead.specs.Tokens.{union, Within}
-use Rattle.lookahead.proofs.Laws.{union_lt}
-use Rattle.lookahead.proofs.Sets.{union-within, within_refl, within_trans, within-union-left, within_same_union, union-within-union}
+use Rattle.lr1_base.specs.repr.Sizes.{nonterminal_limit, terminal_limit}
+use Rattle.lr1_base.proofs.repr.Tests.{All-map, All_member}
+use Rattle.lr1_base.proofs.lookahead.Growing.{Inside, inside_refl, inside_trans, inside_antisym, inside-none, same_between, total, total_inside, Sized, none_sized, total_lt}
+use Rattle.lr1_base.proofs.words.Same.{same_words_eq, eq_same_words}
+use Rattle.lr1_base.specs.words.Same.{same_words}
+use Rattle.lr1_base.specs.repr.Meaning.{Symbol, nonterminal, terminal, Production, Table, SymbolFits, All, ProductionFits, TableFits}
+use Rattle.lr1_base.proofs.repr.Lists.{cases}
+use Rattle.lr1_base.specs.lookahead.Tokens.{union, Within}
+use Rattle.lr1_base.proofs.lookahead.Laws.{union_lt}
+use Rattle.lr1_base.proofs.lookahead.Sets.{union-within, within_refl, within_trans, within-union-left, within_same_union, union-within-union}
 use Rattle.first.specs.First.{marked_at_end, grown, round, settle, rounds, sets_of_first}
 use Rattle.first.proofs.Join.{end_marked-within, end_marked_lt, TerminalBelow}
 

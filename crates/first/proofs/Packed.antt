@@ -1,17 +1,17 @@
--- The productions in words (specs/Packed of repr) are small enough for the sets to be words of 64 bits. Assumes nothing.
+-- The productions in words (specs/repr/Packed of lr1_base) are small enough for the sets to be words of 64 bits. Assumes nothing.
 use mathlib.Core.Path.{◌≡◌, refl, ap, ◌∙◌}
 use mathlib.Core.Bool.{true, false}
 use mathlib.Core.List.{List, [], ◌∷◌, ◌++◌, map}
 use Prim.Native.Nat.{ℕ, zero, suc, ◌≤◌, ◌<◌}
 use native.Mathlib.Omega.{arith}
 use borrow.Author.Tests.{ltb-true}
-use Rattle.repr.specs.Sizes.{nonterminal_limit, terminal_limit}
-use Rattle.repr.specs.Lists.{below, up_from}
-use Rattle.repr.specs.Meaning.{Production, All, no_production}
-use Rattle.repr.specs.Listed.{symbol_of_kind, listed, symbol_is_fit, list_is_fit}
-use Rattle.repr.specs.Packed.{Packed, symbol_words, production_in, productions_in}
-use Rattle.repr.proofs.Lists.{cases, clash, below_last, length-map-below, get_d_map-below}
-use Rattle.repr.proofs.Tests.{All_intro}
+use Rattle.lr1_base.specs.repr.Sizes.{nonterminal_limit, terminal_limit}
+use Rattle.lr1_base.specs.repr.Lists.{below, up_from}
+use Rattle.lr1_base.specs.repr.Meaning.{Production, All, no_production}
+use Rattle.lr1_base.specs.repr.Listed.{symbol_of_kind, listed, symbol_is_fit, list_is_fit}
+use Rattle.lr1_base.specs.repr.Packed.{Packed, symbol_words, production_in, productions_in}
+use Rattle.lr1_base.proofs.repr.Lists.{cases, clash, below_last, length-map-below, get_d_map-below}
+use Rattle.lr1_base.proofs.repr.Tests.{All_intro}
 use Rattle.first.proofs.Join.{TerminalBelow}
 use Rattle.first.proofs.Least.{ProductionSmall, Small}
 

@@ -9,14 +9,14 @@ use native.Mathlib.Omega.{arith}
 use lib.Dec.{eqb}
 use lib.ListN.{length, get_or, set, replicate}
 use borrow.Author.Tests.{not-true, not-false}
-use Rattle.repr.specs.Sizes.{nonterminal_limit, terminal_limit, production_place}
-use Rattle.lookahead.proofs.Growing.{total, Sized, none_sized}
-use Rattle.slices.proofs.Same.{same_words_eq, same_words_refl}
-use Rattle.slices.specs.Same.{same_words}
-use Rattle.repr.specs.Meaning.{Production}
-use Rattle.repr.specs.Listed.{listed}
-use Rattle.repr.specs.Packed.{Packed, symbol_words, production_in, productions_in}
-use Rattle.lookahead.specs.Tokens.{union}
+use Rattle.lr1_base.specs.repr.Sizes.{nonterminal_limit, terminal_limit, production_place}
+use Rattle.lr1_base.proofs.lookahead.Growing.{total, Sized, none_sized}
+use Rattle.lr1_base.proofs.words.Same.{same_words_eq, same_words_refl}
+use Rattle.lr1_base.specs.words.Same.{same_words}
+use Rattle.lr1_base.specs.repr.Meaning.{Production}
+use Rattle.lr1_base.specs.repr.Listed.{listed}
+use Rattle.lr1_base.specs.repr.Packed.{Packed, symbol_words, production_in, productions_in}
+use Rattle.lr1_base.specs.lookahead.Tokens.{union}
 use Rattle.first.specs.First.{marked_at_end, grown, round, settle, rounds, sets_of_first}
 use Rattle.first.proofs.Least.{grown_same, round-nil, round_snoc, length-round, round_same_snoc, round_sized, round_less, loop_more, loop_start, loop_done}
 use Rattle.first.proofs.Packed.{packed_small, productions_in-none, productions_in-more}

@@ -6,11 +6,11 @@ use mathlib.Core.List.{List}
 use Prim.Native.Nat.{ℕ}
 use lib.Dec.{eqb}
 use borrow.Author.Tests.{eqb-true, ne_eqb}
-use Rattle.repr.specs.Meaning.{Symbol, Table}
-use Rattle.repr.proofs.Lists.{cases, clash}
-use Rattle.lookahead.specs.Tokens.{has, single, union, meet, without}
-use Rattle.lookahead.proofs.Laws.{has-none, has-union, has_meet, has-single, has-without, without_no}
-use Rattle.lookahead.proofs.Sets.{same_set}
+use Rattle.lr1_base.specs.repr.Meaning.{Symbol, Table}
+use Rattle.lr1_base.proofs.repr.Lists.{cases, clash}
+use Rattle.lr1_base.specs.lookahead.Tokens.{has, single, union, meet, without}
+use Rattle.lr1_base.proofs.lookahead.Laws.{has-none, has-union, has_meet, has-single, has-without, without_no}
+use Rattle.lr1_base.proofs.lookahead.Sets.{same_set}
 use Rattle.first.specs.First.{unmarked, first0, meets_ahead, disjoint, FIRST, nullable}
 use Rattle.first.specs.Rust.{rust_first0, with_end, rust_nullable, rust_meets, rust_disjoint}
 

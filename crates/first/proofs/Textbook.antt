@@ -9,21 +9,21 @@ use Prim.Native.Nat.{ℕ, zero, suc, ◌<◌}
 use native.Mathlib.Omega.{arith}
 use lib.ListN.{get_or, replicate}
 use borrow.Author.Tests.{eqb-true, eq-eqb}
-use Rattle.repr.specs.Sizes.{nonterminal_limit}
-use Rattle.repr.proofs.Tests.{All-map}
-use Rattle.lookahead.proofs.Growing.{get_d_none}
-use Rattle.slices.specs.Same.{same_words}
-use Rattle.repr.specs.Meaning.{Symbol, nonterminal, terminal, Production, Table, SymbolFits, All, ProductionFits, TableFits}
-use Rattle.repr.proofs.Lists.{cases, clash}
-use Rattle.lookahead.specs.Tokens.{has, Within}
-use Rattle.lookahead.proofs.Laws.{has-none, has-union, has-single}
-use Rattle.lookahead.proofs.Sets.{within_refl, within_trans}
+use Rattle.lr1_base.specs.repr.Sizes.{nonterminal_limit}
+use Rattle.lr1_base.proofs.repr.Tests.{All-map}
+use Rattle.lr1_base.specs.words.Same.{same_words}
+use Rattle.lr1_base.specs.repr.Meaning.{Symbol, nonterminal, terminal, Production, Table, SymbolFits, All, ProductionFits, TableFits}
+use Rattle.lr1_base.proofs.repr.Lists.{cases, clash}
+use Rattle.lr1_base.specs.lookahead.Tokens.{has, Within}
+use Rattle.lr1_base.proofs.lookahead.Laws.{has-none, has-union, has-single}
+use Rattle.lr1_base.proofs.lookahead.Sets.{within_refl, within_trans}
 use Rattle.first.specs.First.{join, first_of, marked_at_end, grown, round, settle, rounds, sets_of_first, first0, unmarked, FIRST, nullable}
 use Rattle.first.specs.Rust.{rust_first0}
 use Rattle.first.specs.Derives.{Derives, done, step}
 use Rattle.first.proofs.Join.{has-join_end, join_cases, join-within, end_marked-append, end_marked-cons, end_marked-terminal, first_of-nonterminal, nullable-nil, TerminalBelow}
 use Rattle.first.proofs.Least.{grown-cases, grown-other, settle-stop, settle_again, Closed, solution, table_small}
 use Rattle.first.proofs.Derivations.{derives_trans, derives_before, derives_production}
+use Rattle.lr1_base.proofs.laws.Lists.{zero_at}
 
 -- sound: what is in a set comes with a derivation
 
@@ -89,7 +89,7 @@ module _ (e : ℕ) (ps : List Production) where
   pub first_sets_sound : All (λ p. All (TerminalBelow e) p.symbols) ps → Sound e ps (sets_of_first e ps)
   unfolding sets_of_first
   first_sets_sound b =
-      settle_sound rounds (replicate nonterminal_limit 0) b (λ n k h. clash (has (get_or (replicate nonterminal_limit 0) n 0) k) h (ap (λ (a : ℕ). has a k) (get_d_none nonterminal_limit n) ∙ has-none k))
+      settle_sound rounds (replicate nonterminal_limit 0) b (λ n k h. clash (has (get_or (replicate nonterminal_limit 0) n 0) k) h (ap (λ (a : ℕ). has a k) (zero_at nonterminal_limit n) ∙ has-none k))
 
   -- complete: FIRST of what a list derives is within FIRST of the list
 
@@ -190,4 +190,4 @@ module _ (e n : ℕ) where
 
   pub first-none : (ps : List Production) → ((p : Production) → Memᴰ p ps → p.nonterminal ≡ n → ⊥) → get_or (sets_of_first e ps) n 0 ≡ 0
   unfolding sets_of_first
-  first-none ps h = settle-none rounds (replicate nonterminal_limit 0) ps h ∙ get_d_none nonterminal_limit n
+  first-none ps h = settle-none rounds (replicate nonterminal_limit 0) ps h ∙ zero_at nonterminal_limit n

@@ -5,11 +5,11 @@ use lib.Dec.{eqb}
 use mathlib.Core.List.{List, [], ◌∷◌}
 use Prim.Native.Nat.{ℕ, ◌≤◌, ◌<◌}
 use native.Mathlib.Omega.{arith}
-use Rattle.repr.specs.Sizes.{terminal_limit}
-use Rattle.repr.specs.Meaning.{Symbol, terminal}
-use Rattle.lookahead.specs.Tokens.{has, single, union, meet, without, with}
-use Rattle.lookahead.proofs.Laws.{with_yes, without_no}
-use Rattle.lookahead.proofs.Sets.{union-zero-left, union_assoc}
+use Rattle.lr1_base.specs.repr.Sizes.{terminal_limit}
+use Rattle.lr1_base.specs.repr.Meaning.{Symbol, terminal}
+use Rattle.lr1_base.specs.lookahead.Tokens.{has, single, union, meet, without, with}
+use Rattle.lr1_base.proofs.lookahead.Laws.{with_yes, without_no}
+use Rattle.lr1_base.proofs.lookahead.Sets.{union-zero-left, union_assoc}
 use Rattle.first.specs.First.{join, first_of, marked_at_end, unmarked, first0, followed, first1, meets_ahead, disjoint}
 use Rattle.first.specs.declared.Answer.{Answer}
 use Rattle.first.proofs.Join.{join_null, join_own, end_marked-nil, end_marked-cons}

@@ -1,7 +1,7 @@
 -- Derivation of sentential forms (Aho, Sethi, Ullman), from the productions alone. Assumes nothing: these are definitions.
 use Rattle.std.specs.Prelude.{◌≡◌}
 use mathlib.Core.List.{List, ◌∷◌, ◌++◌, Memᴰ}
-use Rattle.repr.specs.Meaning.{Symbol, nonterminal, Production}
+use Rattle.lr1_base.specs.repr.Meaning.{Symbol, nonterminal, Production}
 
 -- xs derives ys: in no step, or by one step that puts a production's symbols in the place of its nonterminal and then further
 pub data Derives (ps : List Production) : List Symbol → List Symbol → Type 0 where

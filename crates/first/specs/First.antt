@@ -1,11 +1,11 @@
 -- FIRST, part 2 of document 01 (lr1/first), answered as request 04 of document 02 asks: a set of terminals, and whether the list is nullable. A set of tokens
--- is a number (specs/Tokens of lookahead); e is the end of input. Only the sets of the nonterminals and `marked_at_end`, which makes them, have e in them, as their
+-- is a number (specs/lookahead/Tokens of lr1_base); e is the end of input. Only the sets of the nonterminals and `marked_at_end`, which makes them, have e in them, as their
 -- mark of "nullable": that is no answer. Assumes nothing: these are definitions.
 use Rattle.std.specs.Prelude.{ℕ, zero, suc, ◌*◌, ◌^◌, Bool, true, false, ◌&&◌, ◌||◌, not, List, [], ◌∷◌, get_or, set, replicate, eqb}
-use Rattle.repr.specs.Sizes.{nonterminal_limit}
-use Rattle.slices.specs.Same.{same_words}
-use Rattle.repr.specs.Meaning.{Symbol, nonterminal, terminal, Production, Table}
-use Rattle.lookahead.specs.Tokens.{has, single, union, meet, without}
+use Rattle.lr1_base.specs.repr.Sizes.{nonterminal_limit}
+use Rattle.lr1_base.specs.words.Same.{same_words}
+use Rattle.lr1_base.specs.repr.Meaning.{Symbol, nonterminal, terminal, Production, Table}
+use Rattle.lr1_base.specs.lookahead.Tokens.{has, single, union, meet, without}
 use Rattle.first.specs.declared.Answer.{Answer}
 
 -- marked_at_end sets of two joined lists: what the first gives, and where it is nullable what the second gives

@@ -1,8 +1,8 @@
 -- FIRST as the Rust has it (lr1/first, lr1/trace, lr1/error): one set, in which the end of input e marks a nullable list; what it asks of such sets.
 -- `rust_set` and the laws beside it (proofs/Rust) say how the answers of specs/First stand to it. Assumes nothing: these are definitions.
 use Rattle.std.specs.Prelude.{ℕ, Bool, true, false, not, List, eqb}
-use Rattle.repr.specs.Meaning.{Symbol, Table}
-use Rattle.lookahead.specs.Tokens.{has, single, union, meet}
+use Rattle.lr1_base.specs.repr.Meaning.{Symbol, Table}
+use Rattle.lr1_base.specs.lookahead.Tokens.{has, single, union, meet}
 use Rattle.first.specs.declared.Answer.{Answer}
 use Rattle.first.specs.First.{marked_at_end, sets_of_first}
 

@@ -1,17 +1,17 @@
-// FIRST sets (lr1/first/mod.rs). The productions stand in words (specs/Packed of repr), a list of symbols is kind and number each (specs/Listed).
+// FIRST sets (lr1/first/mod.rs). The productions stand in words (specs/repr/Packed of lr1_base), a list of symbols is kind and number each (specs/Listed).
 
 #![tactic(auto)]
 
 ghost use Rattle.std.specs.Prelude.{◌≡◌, true, not, ◌++◌, ◌≤◌, ◌<◌};
-ghost use Rattle.repr.specs.Sizes.{nonterminal_limit, terminal_limit};
-ghost use Rattle.slices.specs.Same.{same_words};
-ghost use Rattle.repr.specs.Listed.{listed, list_is_fit};
-ghost use Rattle.repr.specs.Symbols.{meant, IsInRange};
-ghost use Rattle.repr.specs.Packed.{production_in, productions_in};
+ghost use Rattle.lr1_base.specs.repr.Sizes.{nonterminal_limit, terminal_limit};
+ghost use Rattle.lr1_base.specs.words.Same.{same_words};
+ghost use Rattle.lr1_base.specs.repr.Listed.{listed, list_is_fit};
+ghost use Rattle.lr1_base.specs.repr.Symbols.{meant, IsInRange};
+ghost use Rattle.lr1_base.specs.repr.Packed.{production_in, productions_in};
 ghost use Rattle.first.specs.First.{first_of, marked_at_end, first0, first1, join_answers, meets_ahead, disjoint, grown, round, sets_of_first};
 
-use lookahead::TokenSet;
-use repr::{Grammar, NonterminalString, Symbol, SymbolIter};
+use lr1_base::lookahead::TokenSet;
+use lr1_base::repr::{Grammar, NonterminalString, Symbol, SymbolIter};
 
 // FIRST of a list: the terminals that begin what it derives, never the end of input; and whether it derives the empty list. A list may have both, one or neither, so they are no Option.
 #[derive(Clone, Copy, PartialEq, Eq)]

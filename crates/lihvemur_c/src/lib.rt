@@ -1,30 +1,68 @@
-// The static library for C: each export calls the function of its name in `lihvemur`, whose clauses it states again. A slice passes as a pointer and a length.
+// The public surface in numbers, a static library for C (include/lihvemur.h). Each function answers 0, or the refusal, whose place it
+// writes behind `place`; a number behind another reference is written only with answer 0 (count and openness of a listing always). Lent graph and scratch words are left as the entry leaves them.
+
 #![tactic(auto)]
 
+pub mod classes;
+pub mod listings;
+
 ghost use Rattle.std.specs.Prelude.{◌≡◌, ◌++◌};
+ghost use Rattle.lr1_base.specs.repr.Reply.{number_of, place_of};
 ghost use Rattle.table.specs.Refusals.{check_of};
-ghost use Rattle.spelling.specs.Outcome.{respell_of};
-ghost use Rattle.compaction.specs.Outcome.{compact_of};
-ghost use Rattle.builder.specs.Outcome.{build_of};
-ghost use Rattle.yacc_read.specs.Outcome.{read_of};
-ghost use Rattle.yacc_write.specs.Outcome.{write_of};
+ghost use Rattle.table_rewrite.specs.spelling.Outcome.{respell_of};
+ghost use Rattle.table_rewrite.specs.compaction.Outcome.{compact_of};
+ghost use Rattle.lr1_tables.specs.Outcome.{build_of};
+ghost use Rattle.yacc_reader.specs.parsed_file.Outcome.{read_of};
+ghost use Rattle.yacc_writer.specs.text.Outcome.{write_of};
 ghost use Rattle.state_graph.specs.States.{states_in};
 ghost use Rattle.lr1.specs.Entries.{first0_of, first1_of, trace_back_of};
 ghost use Rattle.lr1.specs.Edges.{add_edge_of};
-ghost use Rattle.tracer.specs.Outcome.{shift_of, reduce_of};
-ghost use Rattle.lihvemur.specs.Exported.{numbers, check_numbers, spell_numbers, respell_numbers, compact_numbers, build_numbers, built_numbers, read_numbers, reading_numbers, write_numbers, writing_numbers, set_numbers, followed_numbers, answer_numbers, first_numbers, state_numbers, walk_numbers, add_numbers, edge_numbers, trace_numbers, backtrace_numbers};
-ghost use Rattle.enumerator.specs.Advance.{open_of, advance_of};
-ghost use Rattle.listing.specs.CallList.{list_of};
-ghost use Rattle.lihvemur.specs.Listings.{ahead_of, open_numbers, advance_numbers, advanced_numbers, list_numbers, listed_numbers};
-ghost use Rattle.error.specs.Outcome.{classify_of};
-ghost use Rattle.lihvemur.specs.Reports.{class_numbers, classified_numbers, choice_numbers, choose_numbers, part_numbers, observed_numbers};
-ghost use Rattle.report.specs.Part.{part_observed};
+ghost use Rattle.trace.specs.Outcome.{shift_of, reduce_of};
+ghost use Rattle.lihvemur_c.specs.Exported.{Told, HandedOut, numbers, check_numbers, spell_numbers, respell_numbers, compact_numbers, build_numbers, built_numbers, read_numbers, reading_numbers, write_numbers, writing_numbers, set_numbers, followed_numbers, answer_numbers, first_numbers, state_numbers, walk_numbers, add_numbers, edge_numbers, trace_numbers, backtrace_numbers};
+
+use lr1_base::lookahead::TokenSet;
+use lr1_base::repr::{ProductionIndex, Refusal};
+use state_graph::StateIndex;
+use trace_graph::TraceGraphNode;
+
+// A refusal in numbers.
+fn refuse(refusal: Refusal, place: &mut u16) -> u16
+    ensures number { result ≡ number_of refusal }
+    ensures place { place.new ≡ place_of refusal }
+{
+    *place = refusal.place();
+    refusal.number()
+}
+
+// 0 and what is answered, to be written behind its references; or a refusal in numbers and nothing.
+fn told<T>(answer: Result<T, Refusal>, place: &mut u16) -> (u16, Option<T>)
+    ensures { Told answer result.0 place.new result.1 }
+{
+    match answer {
+        Ok(found) => {
+            *place = 0;
+            (0, Some(found))
+        }
+        Err(refusal) => (refuse(refusal, place), None),
+    }
+}
+
+// A count behind its reference, or a refusal in numbers.
+fn hand_out(answer: Result<u16, Refusal>, count: &mut u16, place: &mut u16) -> u16
+    ensures { HandedOut answer result place.new count.old count.new }
+{
+    let (number, found) = told(answer, place);
+    if let Some(found) = found {
+        *count = found;
+    }
+    number
+}
 
 #[unsafe(no_mangle)]
 pub extern "C" fn lihvemur_check(table: &[u16], place: &mut u16) -> u16
     ensures { numbers result place.new ≡ check_numbers (check_of table.now) }
 {
-    lihvemur::lihvemur_check(table, place)
+    told(lr1::check(table), place).0
 }
 
 #[unsafe(no_mangle)]
@@ -36,16 +74,17 @@ pub extern "C" fn lihvemur_respell(
 ) -> u16
     ensures { spell_numbers result place.new records.new out.new ≡ respell_numbers records.old (respell_of table.now out.old) }
 {
-    lihvemur::lihvemur_respell(table, out, records, place)
+    hand_out(lr1::respell(table, out), records, place)
 }
 
 #[unsafe(no_mangle)]
 pub extern "C" fn lihvemur_compact(table: &mut [u16], records: &mut u16, place: &mut u16) -> u16
     ensures { spell_numbers result place.new records.new table.new ≡ compact_numbers records.old (compact_of table.old) }
 {
-    lihvemur::lihvemur_compact(table, records, place)
+    hand_out(lr1::compact(table), records, place)
 }
 
+// The number of conflicts may pass 65,535, so it has 32 bits.
 #[unsafe(no_mangle)]
 pub extern "C" fn lihvemur_build_states(
     table: &[u16],
@@ -59,7 +98,13 @@ pub extern "C" fn lihvemur_build_states(
 ) -> u16
     ensures { build_numbers result place.new records.new count.new scratch.new out.new conflicts.new ≡ built_numbers records.old count.old (build_of table.now start scratch.old out.old conflicts.old) }
 {
-    lihvemur::lihvemur_build_states(table, start, scratch, out, conflicts, records, count, place)
+    let answer = lr1::build_states(table, ProductionIndex(start), scratch, out, conflicts);
+    let (number, built) = told(answer, place);
+    if let Some(built) = built {
+        *records = built.records;
+        *count = built.conflicts;
+    }
+    number
 }
 
 #[unsafe(no_mangle)]
@@ -74,7 +119,13 @@ pub extern "C" fn lihvemur_read_yacc(
 ) -> u16
     ensures { read_numbers result place.new records.new count.new start.new table.new places.new ≡ reading_numbers records.old count.old start.old (read_of text.now table.old places.old) }
 {
-    lihvemur::lihvemur_read_yacc(text, table, places, records, count, start, place)
+    let (number, read) = told(lr1::read_yacc(text, table, places), place);
+    if let Some(read) = read {
+        *records = read.records;
+        *count = read.places;
+        *start = read.start.0;
+    }
+    number
 }
 
 #[unsafe(no_mangle)]
@@ -86,7 +137,7 @@ pub extern "C" fn lihvemur_write_yacc(
 ) -> u16
     ensures { write_numbers result place.new bytes.new text.new ≡ writing_numbers bytes.old (write_of table.now text.old) }
 {
-    lihvemur::lihvemur_write_yacc(table, text, bytes, place)
+    hand_out(lr1::write_yacc(table, text), bytes, place)
 }
 
 #[unsafe(no_mangle)]
@@ -99,7 +150,7 @@ pub extern "C" fn lihvemur_first0(
 ) -> u16
     ensures { answer_numbers result place.new set.new nullable.new ≡ first_numbers set.old nullable.old (first0_of table.now symbols.now) }
 {
-    lihvemur::lihvemur_first0(table, symbols, set, nullable, place)
+    lihvemur_first0_joined(table, &symbols[..0], symbols, set, nullable, place)
 }
 
 #[unsafe(no_mangle)]
@@ -113,7 +164,12 @@ pub extern "C" fn lihvemur_first0_joined(
 ) -> u16
     ensures { answer_numbers result place.new set.new nullable.new ≡ first_numbers set.old nullable.old (first0_of table.now (xs.now ++ ys.now)) }
 {
-    lihvemur::lihvemur_first0_joined(table, xs, ys, set, nullable, place)
+    let (number, answer) = told(lr1::first0_joined(table, xs, ys), place);
+    if let Some(answer) = answer {
+        *set = answer.tokens.0;
+        *nullable = answer.nullable;
+    }
+    number
 }
 
 #[unsafe(no_mangle)]
@@ -126,7 +182,11 @@ pub extern "C" fn lihvemur_first1(
 ) -> u16
     ensures { set_numbers result place.new set.new ≡ followed_numbers set.old (first1_of table.now symbols.now lookahead) }
 {
-    lihvemur::lihvemur_first1(table, lookahead, symbols, set, place)
+    let (number, tokens) = told(lr1::first1(table, TokenSet(lookahead), symbols), place);
+    if let Some(tokens) = tokens {
+        *set = tokens.0;
+    }
+    number
 }
 
 #[unsafe(no_mangle)]
@@ -140,7 +200,7 @@ pub extern "C" fn lihvemur_trace_back(
 ) -> u16
     ensures { state_numbers result place.new (states_in low.new high.new) ≡ walk_numbers (states_in low.old high.old) (trace_back_of table.now state symbols.now) }
 {
-    lihvemur::lihvemur_trace_back(table, state, symbols, low, high, place)
+    lihvemur_trace_back_joined(table, state, &symbols[..0], symbols, low, high, place)
 }
 
 #[unsafe(no_mangle)]
@@ -155,9 +215,18 @@ pub extern "C" fn lihvemur_trace_back_joined(
 ) -> u16
     ensures { state_numbers result place.new (states_in low.new high.new) ≡ walk_numbers (states_in low.old high.old) (trace_back_of table.now state (xs.now ++ ys.now)) }
 {
-    lihvemur::lihvemur_trace_back_joined(table, state, xs, ys, low, high, place)
+    let (number, states) = told(
+        lr1::trace_back_joined(table, StateIndex(state), xs, ys),
+        place,
+    );
+    if let Some(states) = states {
+        *low = states.low;
+        *high = states.high;
+    }
+    number
 }
 
+// A node is kind (0 nonterminal, 1 item), its nonterminal or production, and 0 or the item's index; the label is the item at `index` of `production`.
 #[unsafe(no_mangle)]
 pub extern "C" fn lihvemur_add_edge(
     table: &[u16],
@@ -175,22 +244,13 @@ pub extern "C" fn lihvemur_add_edge(
 ) -> u16
     ensures { add_numbers result place.new edges.new graph.new ≡ edge_numbers edges.old (add_edge_of table.now (record { source = record { kind = source_kind; number = source; index = source_index }; target = record { kind = target_kind; number = target; index = target_index }; label = record { production = production; index = index } }) graph.old) }
 {
-    lihvemur::lihvemur_add_edge(
-        table,
-        source_kind,
-        source,
-        source_index,
-        target_kind,
-        target,
-        target_index,
-        production,
-        index,
-        graph,
-        edges,
-        place,
-    )
+    let from = TraceGraphNode::of(source_kind, source, source_index);
+    let to = TraceGraphNode::of(target_kind, target, target_index);
+    let answer = lr1::add_edge(table, from, to, ProductionIndex(production), index, graph);
+    hand_out(answer, edges, place)
 }
 
+// Here and below two functions that read alike, as the Rust and C have two names.
 #[unsafe(no_mangle)]
 pub extern "C" fn lihvemur_backtrace_shift(
     table: &[u16],
@@ -204,9 +264,9 @@ pub extern "C" fn lihvemur_backtrace_shift(
 ) -> u16
     ensures { trace_numbers result place.new edges.new graph.new scratch.new ≡ backtrace_numbers edges.old (shift_of table.now state (record { production = production; index = index }) graph.old scratch.old) }
 {
-    lihvemur::lihvemur_backtrace_shift(
-        table, state, production, index, graph, scratch, edges, place,
-    )
+    let p = ProductionIndex(production);
+    let answer = lr1::backtrace_shift(table, StateIndex(state), p, index, graph, scratch);
+    hand_out(answer, edges, place)
 }
 
 #[unsafe(no_mangle)]
@@ -222,141 +282,7 @@ pub extern "C" fn lihvemur_backtrace_reduce(
 ) -> u16
     ensures { trace_numbers result place.new edges.new graph.new scratch.new ≡ backtrace_numbers edges.old (reduce_of table.now state (record { production = production; index = index }) graph.old scratch.old) }
 {
-    lihvemur::lihvemur_backtrace_reduce(
-        table, state, production, index, graph, scratch, edges, place,
-    )
-}
-
-#[unsafe(no_mangle)]
-pub extern "C" fn lihvemur_lr0_examples(
-    table: &[u16],
-    production: u16,
-    index: u16,
-    graph: &[u16],
-    place: &mut u16,
-) -> u16
-    ensures { numbers result place.new ≡ open_numbers (open_of table.now (record { production = production; index = index }) None graph.now) }
-{
-    lihvemur::listings::lihvemur_lr0_examples(table, production, index, graph, place)
-}
-
-#[unsafe(no_mangle)]
-pub extern "C" fn lihvemur_lr1_examples(
-    table: &[u16],
-    production: u16,
-    index: u16,
-    lookahead: u64,
-    graph: &[u16],
-    place: &mut u16,
-) -> u16
-    ensures { numbers result place.new ≡ open_numbers (open_of table.now (record { production = production; index = index }) (Some (record { 0 = lookahead })) graph.now) }
-{
-    lihvemur::listings::lihvemur_lr1_examples(table, production, index, lookahead, graph, place)
-}
-
-#[unsafe(no_mangle)]
-pub extern "C" fn lihvemur_advance(
-    table: &[u16],
-    production: u16,
-    index: u16,
-    filtered: bool,
-    lookahead: u64,
-    graph: &[u16],
-    scratch: &mut [u16],
-    buffer: &mut [u16],
-    count: &mut u32,
-    is_open: &mut bool,
-    place: &mut u16,
-) -> u16
-    ensures { advance_numbers result place.new count.new is_open.new scratch.new buffer.new ≡ advanced_numbers (advance_of (record { production = record { 0 = production }; index = index; lookahead = ahead_of filtered lookahead; count = count.old; is_open = is_open.old }) table.now graph.now scratch.old buffer.old) }
-{
-    lihvemur::listings::lihvemur_advance(
-        table, production, index, filtered, lookahead, graph, scratch, buffer, count, is_open,
-        place,
-    )
-}
-
-#[unsafe(no_mangle)]
-pub extern "C" fn lihvemur_examples(
-    table: &[u16],
-    production: u16,
-    index: u16,
-    filtered: bool,
-    lookahead: u64,
-    calls: &[u32],
-    graph: &[u16],
-    scratch: &mut [u16],
-    output: &mut [u16],
-    made: &mut usize,
-    place: &mut u16,
-) -> u16
-    ensures { list_numbers result place.new made.new scratch.new output.new ≡ listed_numbers made.old (list_of table.now (record { production = production; index = index }) (ahead_of filtered lookahead) calls.now graph.now scratch.old output.old) }
-{
-    lihvemur::listings::lihvemur_examples(
-        table, production, index, filtered, lookahead, calls, graph, scratch, output, made, place,
-    )
-}
-
-#[unsafe(no_mangle)]
-pub extern "C" fn lihvemur_classify(
-    table: &[u16],
-    state: u16,
-    production: u16,
-    action: u16,
-    operand: u16,
-    token: u16,
-    scratch: &mut [u16],
-    action_example: &mut [u16],
-    reduce_example: &mut [u16],
-    class: &mut u16,
-    values: &mut u64,
-    action_trials: &mut u32,
-    reduce_trials: &mut u32,
-    place: &mut u16,
-) -> u16
-    ensures { class_numbers result place.new class.new values.new action_trials.new reduce_trials.new scratch.new action_example.new reduce_example.new ≡ classified_numbers class.old values.old action_trials.old reduce_trials.old (classify_of table.now (record { state = record { 0 = state }; production = record { 0 = production }; action = action; operand = operand; token = token }) scratch.old action_example.old reduce_example.old) }
-{
-    lihvemur::conflicts::lihvemur_classify(
-        table,
-        state,
-        production,
-        action,
-        operand,
-        token,
-        scratch,
-        action_example,
-        reduce_example,
-        class,
-        values,
-        action_trials,
-        reduce_trials,
-        place,
-    )
-}
-
-#[unsafe(no_mangle)]
-pub extern "C" fn lihvemur_choose(
-    table: &[u16],
-    state: u16,
-    production: u16,
-    action: u16,
-    operand: u16,
-    tokens: u64,
-    scratch: &mut [u16],
-    entries: &mut [u16],
-    count: &mut usize,
-    place: &mut u16,
-) -> u16
-    ensures { choice_numbers result place.new count.new entries.new scratch.new ≡ choose_numbers count.old entries.old table.now (record { state = record { 0 = state }; production = record { 0 = production }; action = action; operand = operand; token = 0 }) tokens scratch.old }
-{
-    lihvemur::conflicts::lihvemur_choose(
-        table, state, production, action, operand, tokens, scratch, entries, count, place,
-    )
-}
-
-#[unsafe(no_mangle)]
-pub extern "C" fn lihvemur_observed(action: &[u16], reduce: &[u16], words: &mut usize) -> u16
-    ensures { part_numbers result words.new ≡ observed_numbers (part_observed action.now reduce.now) }
-{
-    lihvemur::conflicts::lihvemur_observed(action, reduce, words)
+    let p = ProductionIndex(production);
+    let answer = lr1::backtrace_reduce(table, StateIndex(state), p, index, graph, scratch);
+    hand_out(answer, edges, place)
 }

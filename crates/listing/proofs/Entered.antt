@@ -2,14 +2,14 @@
 use Prim.Native.Nat.{ℕ}
 use mathlib.Core.Path.{◌≡◌}
 use mathlib.Core.List.{List}
-use Rattle.repr.specs.Reply.{Reply, refused}
-use Rattle.repr.specs.Meaning.{Item}
+use Rattle.lr1_base.specs.repr.Reply.{Reply, refused}
+use Rattle.lr1_base.specs.repr.Meaning.{Item}
 use Rattle.table.specs.Checked.{Accepted, Refused as NotAccepted}
 use Rattle.table.specs.Decoded.{meaning}
 use Rattle.table.specs.Refusals.{check_of}
-use Rattle.enumerator.specs.Advance.{Outcome, outcome, open_by, open_in, open_of, advance_by, advance_in, advance_of}
-use Rattle.enumerator.specs.Lookahead.{Lookahead}
-use Rattle.enumerator.specs.declared.Listing.{Listing}
+use Rattle.enumerator.specs.trials.Advance.{Outcome, outcome, open_by, open_in, open_of, advance_by, advance_in, advance_of}
+use Rattle.enumerator.specs.trials.Lookahead.{Lookahead}
+use Rattle.enumerator.specs.declared.trials.Listing.{Listing}
 
 module _ (t : List ℕ) (i : Item) (ahead : Lookahead) (g : List ℕ) where
   pub open_refused : (n r : ℕ) → check_of t ≡ NotAccepted n r → refused n r ≡ open_of t i ahead g

@@ -9,11 +9,11 @@ use lib.Dec.{leb}
 use lib.Seq.{take_all, take-length, drop-length, drop-drop, take_at, take-nil, length-take-le}
 use borrow.Author.Tests.{leb-true, leb-false}
 use borrow.Rule.Slice.PartMut.{put_mid, drop_put}
-use Rattle.repr.specs.Reply.{Reply}
-use Rattle.enumerator.specs.Advance.{outcome, advance_of}
-use Rattle.enumerator.specs.Calls.{Lent, left_by, listing_by, scratch_by, called, calls, scratch_after}
-use Rattle.enumerator.specs.declared.Listing.{Listing}
-use Rattle.enumerator.specs.declared.Advanced.{Advanced}
+use Rattle.lr1_base.specs.repr.Reply.{Reply}
+use Rattle.enumerator.specs.trials.Advance.{outcome, advance_of}
+use Rattle.enumerator.specs.trials.Calls.{Lent, left_by, listing_by, scratch_by, called, calls, scratch_after}
+use Rattle.enumerator.specs.declared.trials.Listing.{Listing}
+use Rattle.enumerator.specs.declared.trials.Advanced.{Advanced}
 use Rattle.listing.specs.CallList.{lents_in, output_words, number_of_answer, record_of, records_of, Made, made, made_by, made_of, Ended, ended, ended_of}
 use Rattle.listing.proofs.Asked.{call_is}
 

@@ -4,13 +4,13 @@ use mathlib.Core.Path.{◌≡◌, refl, sym, ap, ◌∙◌}
 use mathlib.Core.List.{List, [], ◌++◌}
 use lib.ListN.{length, drop}
 use borrow.Author.Tests.{lt-ltb, le-ltb}
-use Rattle.repr.specs.Reply.{answered, refused}
-use Rattle.repr.specs.Meaning.{Item}
-use Rattle.enumerator.specs.Advance.{open_of}
-use Rattle.enumerator.specs.Calls.{Left, scratch_after}
-use Rattle.enumerator.specs.Lookahead.{Lookahead}
-use Rattle.enumerator.specs.declared.Listing.{Listing}
-use Rattle.enumerator.proofs.Demand.{demand}
+use Rattle.lr1_base.specs.repr.Reply.{answered, refused}
+use Rattle.lr1_base.specs.repr.Meaning.{Item}
+use Rattle.enumerator.specs.trials.Advance.{open_of}
+use Rattle.enumerator.specs.trials.Calls.{Left, scratch_after}
+use Rattle.enumerator.specs.trials.Lookahead.{Lookahead}
+use Rattle.enumerator.specs.declared.trials.Listing.{Listing}
+use Rattle.enumerator.proofs.trials.Demand.{demand}
 use Rattle.listing.specs.CallList.{lents_in, output_words, records_of, refusal_of_calls, Ran, listed, list_by, list_of, Ended, ended, ended_of}
 
 module _ (t : List ℕ) (i : Item) (ahead : Lookahead) (cs g scratch out : List ℕ) where

@@ -1,16 +1,16 @@
 -- A list of calls in lent words, and what making them leaves: demand 3 of document 01, in code. Assumes nothing: these are definitions.
 use Rattle.std.specs.Prelude.{ℕ, zero, suc, ◌+◌, ◌%◌, ◌/◌, Bool, true, false, List, [], ◌∷◌, ◌++◌, map, length, take, drop, leb, ltb, eqb}
-use Rattle.repr.specs.Reply.{Reply, answered, refused}
-use Rattle.repr.specs.Meaning.{Item}
+use Rattle.lr1_base.specs.repr.Reply.{Reply, answered, refused}
+use Rattle.lr1_base.specs.repr.Meaning.{Item}
 use Rattle.table.specs.Decoded.{meaning}
 use Rattle.trace_graph.specs.Words.{edges_in}
-use Rattle.enumerator.specs.Lister.{plain_lister}
-use Rattle.enumerator.specs.Advance.{Outcome, set_of, open_of}
-use Rattle.enumerator.specs.Calls.{Lent, Left, left_by, listing_by, scratch_by, called, calls, scratch_after, lengths, left_all}
-use Rattle.enumerator.specs.Lookahead.{Lookahead}
-use Rattle.enumerator.specs.declared.Listing.{Listing}
-use Rattle.enumerator.specs.declared.Advanced.{Advanced}
-use Rattle.enumerator.specs.declared.Advanced.TheVariants.{Example, End}
+use Rattle.enumerator.specs.trials.Lister.{plain_lister}
+use Rattle.enumerator.specs.trials.Advance.{Outcome, set_of, open_of}
+use Rattle.enumerator.specs.trials.Calls.{Lent, Left, left_by, listing_by, scratch_by, called, calls, scratch_after, lengths, left_all}
+use Rattle.enumerator.specs.trials.Lookahead.{Lookahead}
+use Rattle.enumerator.specs.declared.trials.Listing.{Listing}
+use Rattle.enumerator.specs.declared.trials.Advanced.{Advanced}
+use Rattle.enumerator.specs.declared.trials.Advanced.TheVariants.{Example, End}
 
 -- three numbers a call: how much of the graph and of the scratch it is lent, and the length of its buffer. Its part of the output is three words and the buffer
 unfoldable pub lents_in : List ℕ → List ℕ → List Lent

@@ -3,14 +3,14 @@
 #![tactic(auto)]
 
 ghost use Rattle.std.specs.Prelude.{OnOk, IfErr, ◌≡◌, [], ◌∷◌, ◌+◌, ◌≤◌, ◌<◌, ◌%◌, ◌/◌, length, get_or, drop};
-ghost use Rattle.repr.specs.Reply.{number_of, place_of, reply_of};
-ghost use Rattle.enumerator.specs.Advance.{outcome, open_of, advance_of};
+ghost use Rattle.lr1_base.specs.repr.Reply.{number_of, place_of, reply_of};
+ghost use Rattle.enumerator.specs.trials.Advance.{outcome, open_of, advance_of};
 ghost use Rattle.listing.specs.CallList.{number_of_answer, made, made_of, refusal_of_calls, listed, list_of, ended, ended_of};
 
-use enumerator::{Advanced, Listing};
-use lister::{open_in, step_in};
-use lookahead::TokenSet;
-use repr::{ProductionIndex, Refusal};
+use enumerator::advance::{open_in, step_in};
+use enumerator::trials::{Advanced, Listing};
+use lr1_base::lookahead::TokenSet;
+use lr1_base::repr::{ProductionIndex, Refusal};
 use table_check::check;
 
 // A listing of the examples of a start item: of all, or of those whose `first0` meets the lookahead.

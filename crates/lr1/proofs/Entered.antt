@@ -7,16 +7,17 @@ use native.Mathlib.Omega.{arith}
 use lib.ListN.{length}
 use lib.Dec.{ltb}
 use borrow.Author.Tests.{lt-ltb, le-ltb}
-use Rattle.repr.specs.Reply.{answered, refused}
-use Rattle.repr.specs.Meaning.{Table, Production}
-use Rattle.repr.specs.Listed.{listed, list_is_fit}
-use Rattle.repr.proofs.Listed.{symbol_wider}
+use Rattle.lr1_base.specs.repr.Reply.{answered, refused}
+use Rattle.lr1_base.specs.repr.Meaning.{Table, Production}
+use Rattle.lr1_base.specs.repr.Listed.{listed, list_is_fit}
+use Rattle.lr1_base.proofs.repr.Listed.{symbol_wider}
 use Rattle.table.specs.Checked.{Checked, Accepted, Refused}
 use Rattle.table.specs.Decoded.{meaning}
 use Rattle.first.specs.First.{FIRST, first0, first1, sets_of_first}
 use Rattle.first.specs.declared.Answer.{Answer}
 use Rattle.state_graph.specs.Walk.{traced_back}
 use Rattle.lr1.specs.Entries.{over_table, symbols_fit, tokens_fit, first0_answer, first1_answer, trace_back_answer}
+use Rattle.lr1_base.proofs.laws.Bools.{and-true}
 
 module _ {A : Type 0} (refuse : ℕ → ℕ → A) (answer : Table → A) (t : List ℕ) where
   pub over-refused : (n r : ℕ) (c : Checked) → c ≡ Refused n r → refuse n r ≡ over_table refuse answer t c
@@ -76,15 +77,10 @@ module _ (s : ℕ) (ws : List ℕ) (T : Table) where
   unfolding trace_back_answer
   walk_state h = rw (le-ltb s (length T.states) h, trace_back_answer)
 
--- ---- a list in range is so in a larger one
-and_both : (a b : Bool) → a && b ≡ true → (a ≡ true) × (b ≡ true)
-and_both true b e = (refl, e)
-and_both false b e = let z : ◌≡◌ {A = ℕ} 0 1 = cc in absurd (omega arith)
-
 pub list_wider : (n t n' t' : ℕ) (ws : List ℕ) → n ≤ n' → t ≤ t' → list_is_fit n t ws ≡ true → list_is_fit n' t' ws ≡ true
 unfolding list_is_fit
 list_wider n t n' t' [] hn ht e = refl
 list_wider n t n' t' (k ∷ []) hn ht e = e
 list_wider n t n' t' (k ∷ x ∷ ws) hn ht e =
-    let h = and_both _ _ e in
+    let h = and-true _ _ e in
     rw (symbol_wider n t n' t' k x hn ht h.0) (list_wider n t n' t' ws hn ht h.1)

@@ -8,11 +8,11 @@ use lib.ListN.{length, get_or, drop, take-append-drop, length-append, length-dro
 use lib.Seq.{drop-drop}
 use lib.Dec.{leb}
 use borrow.Author.Tests.{le-leb, lt-leb}
-use Rattle.repr.specs.Reply.{answered, refused}
-use Rattle.repr.specs.Sizes.{edge_limit, edge_place, graph_room}
-use Rattle.slices.specs.Lent.{in_front}
-use Rattle.repr.specs.Lists.{some?}
-use Rattle.repr.specs.Meaning.{Table, Production, Item}
+use Rattle.lr1_base.specs.repr.Reply.{answered, refused}
+use Rattle.lr1_base.specs.repr.Sizes.{edge_limit, edge_place, graph_room}
+use Rattle.lr1_base.specs.words.Lent.{in_front}
+use Rattle.lr1_base.specs.repr.Lists.{some?}
+use Rattle.lr1_base.specs.repr.Meaning.{Table, Production, Item}
 use Rattle.table.specs.Checked.{Checked, Accepted, Refused as NotAccepted}
 use Rattle.table.specs.Decoded.{meaning}
 use Rattle.trace_graph.specs.declared.Node.{Node as NodeValue}
@@ -24,8 +24,8 @@ use Rattle.trace_graph.specs.Values.{edge_is, value_fits}
 use Rattle.trace_graph.specs.Insert.{Graphed, with_one_more, add_words, Added, Overfull}
 use Rattle.trace_graph.proofs.Inserts.{add_there, add_new, words_there, words_new}
 use Rattle.trace_graph.proofs.Front.{edges_long, overfull_long, more-front}
-use Rattle.tracer.specs.Outcome.{Outcome, outcome, traced_in, trace_by}
-use Rattle.tracer.proofs.Words.{built, words_long}
+use Rattle.trace.specs.Outcome.{Outcome, outcome, traced_in, trace_by}
+use Rattle.trace.proofs.Words.{built, words_long}
 use Rattle.lr1.specs.Edges.{EdgeOutcome, edge_outcome, added_outcome, added_edge_in, add_edge_of}
 
 -- ---- the traces

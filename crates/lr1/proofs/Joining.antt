@@ -7,14 +7,13 @@ use native.Mathlib.Omega.{arith}
 use lib.Dec.{ltb}
 use lib.ListN.{length}
 use borrow.Author.Tests.{ltb-true, lt-ltb}
-use Rattle.repr.specs.Reply.{answered, refused}
-use Rattle.repr.specs.Lists.{mem, joined}
-use Rattle.repr.specs.Meaning.{Symbol, Table}
-use Rattle.repr.specs.Listed.{listed}
-use Rattle.repr.proofs.Lists.{mem-cons_here, mem-cons_there, joined_nil, joined_cons}
-use Rattle.repr.proofs.Listed.{and_left, and_right}
-use Rattle.repr.proofs.Parts.{length-listed}
-use Rattle.repr.proofs.Joined.{listed-append, fits-append}
+use Rattle.lr1_base.specs.repr.Reply.{answered, refused}
+use Rattle.lr1_base.specs.repr.Lists.{mem, joined}
+use Rattle.lr1_base.specs.repr.Meaning.{Symbol, Table}
+use Rattle.lr1_base.specs.repr.Listed.{listed}
+use Rattle.lr1_base.proofs.repr.Lists.{mem-cons_here, mem-cons_there, joined_nil, joined_cons, joined_members}
+use Rattle.lr1_base.proofs.repr.Parts.{length-listed}
+use Rattle.lr1_base.proofs.repr.Joined.{listed-append, fits-append}
 use Rattle.table.specs.Checked.{Checked, Accepted, Refused}
 use Rattle.table.specs.Decoded.{meaning}
 use Rattle.table.specs.Refusals.{check_of}
@@ -26,6 +25,7 @@ use Rattle.state_graph.proofs.Exact.{mem_one, walk_inside}
 use Rattle.state_graph.proofs.Merged.{trace_append}
 use Rattle.lr1.specs.Entries.{over_table, symbols_fit, first0_answer, first0_of, trace_back_answer, trace_back_of}
 use Rattle.lr1.specs.Joining.{Joining, EntriesJoin}
+use Rattle.lr1_base.proofs.laws.Bools.{and_left, and_right}
 
 pub joining : (T : Table) → Joining T
 joining T = record {
@@ -123,12 +123,6 @@ module _ (T : Table) (xs ys : List ℕ) (f : symbols_fit T xs ≡ true) where
   unfolding symbols_fit
   both_fit g = fits-append (length T.nonterminals) T.terminals xs ys whole ∙ rw (f, g)
 
-joined_on : (f g : ℕ → List ℕ) (qs : List ℕ) → ((q : ℕ) → mem q qs ≡ true → f q ≡ g q) → joined f qs ≡ joined g qs
-joined_on f g [] h = joined_nil f ∙ sym (joined_nil g)
-joined_on f g (q ∷ qs) h =
-    let rest = joined_on f g qs (λ k m. h k (mem-cons_there k q qs m)) in
-    joined_cons f q qs ∙ rw (h q (mem-cons_here q qs), rest) (sym (joined_cons g q qs))
-
 trace_inside : (T : Table) (s : ℕ) → s < length T.states → (xs : List Symbol) (p : ℕ) → mem p (traced_back T s xs) ≡ true → p < length T.states
 unfolding traced_back
 trace_inside T s h xs = walk_inside T (s ∷ []) (λ k m. rw (mem_one k s m) h) xs
@@ -147,7 +141,7 @@ module _ (t : List ℕ) where
       let Y = walk-found t ys s found ey in
       let X = walk-found t xs s (back s) (ex s Y.1) in
       let each : joined (λ q. traced_back (meaning t) q (listed xs)) found ≡ joined back found =
-      joined_on (λ q. traced_back (meaning t) q (listed xs)) back found (λ q m.
+      joined_members (λ q. traced_back (meaning t) q (listed xs)) back found (λ q m.
       let h = trace_inside (meaning t) s Y.1 (listed ys) q (ap (mem q) Y.3 ∙ m) in
       (walk-found t xs q (back q) (ex q h)).3) in
       walk-over t (xs ++ ys) s Y.0 ∙ walk-yes t (xs ++ ys) s (rw (lt-ltb s (length (meaning t).states) Y.1) (both_fit (meaning t) xs ys X.2 Y.2))

@@ -9,17 +9,16 @@ use native.Mathlib.Omega.{arith}
 use lib.ListN.{length, get_or}
 use lib.Dec.{eqb}
 use borrow.Author.Tests.{lt-ltb, ne_eqb, eqb-false}
-use Rattle.repr.specs.Reply.{answered}
-use Rattle.repr.specs.Lists.{mem}
-use Rattle.repr.specs.Meaning.{Symbol, terminal, Production, no_production, Table, TableFits, SymbolFits, All}
-use Rattle.repr.specs.Listed.{symbol_of_kind, listed, symbol_is_fit, list_is_fit}
-use Rattle.repr.proofs.Lists.{cases, clash, mem-nil}
-use Rattle.lookahead.specs.Tokens.{has, without}
-use Rattle.lookahead.proofs.Laws.{has-none, has-without, without_no}
+use Rattle.lr1_base.specs.repr.Reply.{answered}
+use Rattle.lr1_base.specs.repr.Lists.{mem}
+use Rattle.lr1_base.specs.repr.Meaning.{Symbol, terminal, Production, no_production, Table, TableFits, SymbolFits, All}
+use Rattle.lr1_base.specs.repr.Listed.{symbol_of_kind, listed, symbol_is_fit, list_is_fit}
+use Rattle.lr1_base.proofs.repr.Lists.{cases, clash, mem-nil}
+use Rattle.lr1_base.specs.lookahead.Tokens.{has, without}
+use Rattle.lr1_base.proofs.lookahead.Laws.{has-none, has-without, without_no}
 use Rattle.table.specs.Checked.{Accepted}
 use Rattle.table.specs.Decoded.{meaning}
 use Rattle.table.specs.Refusals.{check_of}
-use Rattle.table.proofs.Chains.{and-true as both_true}
 use Rattle.table.proofs.Accepted.{accepts}
 use Rattle.table.proofs.Decoding.{symbol_fits, fits, owned}
 use Rattle.first.specs.declared.Answer.{Answer}
@@ -30,6 +29,7 @@ use Rattle.first.proofs.Join.{join-left, join_right, join_cases, join-single_rig
 use Rattle.first.proofs.Textbook.{first-terminal, first_end, first-only, first-none}
 use Rattle.lr1.specs.Entries.{over_table, symbols_fit, tokens_fit, first0_answer, first0_of, first1_answer, first1_of}
 use Rattle.lr1.specs.Textbook.{IsFirst, IsFirst1}
+use Rattle.lr1_base.proofs.laws.Bools.{and-true as both_true}
 
 listed-fits : (T : Table) (ws : List ℕ) → list_is_fit (length T.nonterminals) T.terminals ws ≡ true → All (SymbolFits T) (listed ws)
 unfolding list_is_fit listed All

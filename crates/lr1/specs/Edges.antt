@@ -1,9 +1,9 @@
 -- What `add_edge` answers and leaves (part 4 of document 01): answer and graph words. Assumes nothing: these are definitions.
 use Rattle.std.specs.Prelude.{ℕ, true, false, List, length, leb}
-use Rattle.repr.specs.Reply.{Reply, answered, refused}
-use Rattle.repr.specs.Sizes.{edge_limit, graph_room}
-use Rattle.slices.specs.Lent.{in_front}
-use Rattle.repr.specs.Meaning.{Table}
+use Rattle.lr1_base.specs.repr.Reply.{Reply, answered, refused}
+use Rattle.lr1_base.specs.repr.Sizes.{edge_limit, graph_room}
+use Rattle.lr1_base.specs.words.Lent.{in_front}
+use Rattle.lr1_base.specs.repr.Meaning.{Table}
 use Rattle.table.specs.Refusals.{check_of}
 use Rattle.trace_graph.specs.declared.TraceEdge.{TraceEdge as EdgeValue}
 use Rattle.trace_graph.specs.Graph.{TraceEdge, add}

@@ -1,15 +1,15 @@
 -- What the public entries answer, refusals included. A table is refused by rows 1 to 8 first; nothing above that speaks of words but through `meaning`.
 -- Assumes nothing: these are definitions.
 use Rattle.std.specs.Prelude.{ℕ, suc, ◌^◌, Bool, true, false, ◌&&◌, List, Result, Ok, Err, length, ltb}
-use Rattle.repr.specs.Reply.{Reply, answered, refused, number_of, place_of}
-use Rattle.repr.specs.Meaning.{Table}
-use Rattle.repr.specs.Listed.{listed, list_is_fit}
+use Rattle.lr1_base.specs.repr.Reply.{Reply, answered, refused, number_of, place_of}
+use Rattle.lr1_base.specs.repr.Meaning.{Table}
+use Rattle.lr1_base.specs.repr.Listed.{listed, list_is_fit}
 use Rattle.table.specs.Checked.{Checked, Accepted, Refused}
 use Rattle.table.specs.Decoded.{meaning}
 use Rattle.table.specs.Refusals.{check_of}
 use Rattle.first.specs.First.{FIRST, followed}
-use Rattle.repr.specs.declared.refusals.Refusal.{Refusal}
-use Rattle.lookahead.specs.declared.TokenSet.{TokenSet}
+use Rattle.lr1_base.specs.declared.repr.refusals.Refusal.{Refusal}
+use Rattle.lr1_base.specs.declared.lookahead.TokenSet.{TokenSet}
 use Rattle.first.specs.declared.Answer.{Answer}
 use Rattle.state_graph.specs.declared.StateSet.{StateSet}
 use Rattle.state_graph.specs.Walk.{traced_back}

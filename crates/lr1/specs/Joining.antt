@@ -1,9 +1,9 @@
 -- Request 14 of document 02, laws for putting strings together, in its order: for every table, all lists of symbols and all answers. Assumes nothing: these are
 -- definitions.
 use Rattle.std.specs.Prelude.{ℕ, ◌<◌, ◌≡◌, List, [], ◌++◌, length}
-use Rattle.repr.specs.Reply.{answered}
-use Rattle.repr.specs.Lists.{joined}
-use Rattle.repr.specs.Meaning.{Symbol, Table}
+use Rattle.lr1_base.specs.repr.Reply.{answered}
+use Rattle.lr1_base.specs.repr.Lists.{joined}
+use Rattle.lr1_base.specs.repr.Meaning.{Symbol, Table}
 use Rattle.table.specs.Decoded.{meaning}
 use Rattle.first.specs.declared.Answer.{Answer}
 use Rattle.first.specs.First.{FIRST, join_answers}

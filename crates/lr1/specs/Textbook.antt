@@ -1,7 +1,7 @@
 -- FIRST as the textbook has it (Aho, Sethi, Ullman; part 2 of document 01), from derivations alone. Assumes nothing: these are definitions.
 use Rattle.std.specs.Prelude.{ℕ, ◌≤◌, ◌<◌, ◌≡◌, ◌⊎◌, ◌↔◌, true, false, List, [], ◌∷◌}
-use Rattle.repr.specs.Meaning.{Symbol, terminal, Table}
-use Rattle.lookahead.specs.Tokens.{has}
+use Rattle.lr1_base.specs.repr.Meaning.{Symbol, terminal, Table}
+use Rattle.lr1_base.specs.lookahead.Tokens.{has}
 use Rattle.first.specs.declared.Answer.{Answer}
 use Rattle.first.specs.Derives.{Derives}
 

@@ -1,4 +1,4 @@
-// The public surface. Every entry is total, refuses by document 01's table of refusals, and is equated with a definition of specs/Entries, specs/Edges or the specs/Outcome of tracer, of spelling, of compaction, of builder, of yacc_read and of yacc_write.
+// The public surface. Every entry is total, refuses by document 01's table of refusals, and is equated with a definition of specs/Entries, specs/Edges or the specs/Outcome of trace, of spelling, of compaction, of builder, of yacc_read and of yacc_write.
 // Parameters: table, then numbers, then lent lists.
 
 #![tactic(auto)]
@@ -6,30 +6,30 @@
 ghost use Rattle.std.specs.Prelude.{◌≡◌, ◌++◌, IfOk};
 ghost use Rattle.first.specs.First.{sets_of_first};
 ghost use Rattle.table.specs.Decoded.{meaning};
-ghost use Rattle.repr.specs.Reply.{reply_of};
+ghost use Rattle.lr1_base.specs.repr.Reply.{reply_of};
 ghost use Rattle.table.specs.Checked.{checked_of};
 ghost use Rattle.table.specs.Refusals.{check_of};
-ghost use Rattle.spelling.specs.Outcome.{respell_of};
-ghost use Rattle.compaction.specs.Outcome.{compact_of};
-ghost use Rattle.builder.specs.Outcome.{build_of};
-ghost use Rattle.yacc_read.specs.Outcome.{read_of};
-ghost use Rattle.yacc_write.specs.Outcome.{write_of};
+ghost use Rattle.table_rewrite.specs.spelling.Outcome.{respell_of};
+ghost use Rattle.table_rewrite.specs.compaction.Outcome.{compact_of};
+ghost use Rattle.lr1_tables.specs.Outcome.{build_of};
+ghost use Rattle.yacc_reader.specs.parsed_file.Outcome.{read_of};
+ghost use Rattle.yacc_writer.specs.text.Outcome.{write_of};
 ghost use Rattle.trace_graph.specs.Nodes.{node_value};
-ghost use Rattle.tracer.specs.Outcome.{outcome, trace_by, shift_of, reduce_of};
-ghost use Rattle.tracer.specs.Built.{edges_by};
+ghost use Rattle.trace.specs.Outcome.{outcome, trace_by, shift_of, reduce_of};
+ghost use Rattle.trace.specs.Built.{edges_by};
 ghost use Rattle.lr1.specs.Edges.{edge_outcome, added_edge_in, add_edge_of};
 ghost use Rattle.lr1.specs.Entries.{first0_answer, first0_of, first1_answer, first1_of, walk_of, trace_back_answer, trace_back_of};
 
-use builder::Built;
 use first::{Answer, FirstSets};
-use lookahead::TokenSet;
-use lr1_core::Item;
-use repr::{ProductionIndex, Refusal, joined_fits, list_fits};
+use lr1_base::item::Item;
+use lr1_base::lookahead::TokenSet;
+use lr1_base::repr::{ProductionIndex, Refusal, joined_fits, list_fits};
+use lr1_tables::Built;
 use state_graph::{StateIndex, StateSet};
 use table::AcceptedTable;
+use trace::{Action, TracedItem};
 use trace_graph::{TraceEdge, TraceGraph, TraceGraphNode, check_graph, edge_fits, insert};
-use tracer::{Action, TracedItem};
-use yacc_read::Reading;
+use yacc_reader::parsed_file::Reading;
 
 // Whether a table is accepted; else the refusal, 1 to 8, and its place.
 pub fn check(table: &[u16]) -> Result<AcceptedTable, Refusal>
@@ -44,7 +44,7 @@ pub fn check(table: &[u16]) -> Result<AcceptedTable, Refusal>
 pub fn respell(table: &[u16], out: &mut [u16]) -> Result<u16, Refusal>
     ensures { record { answer = reply_of result; out = out.new } ≡ respell_of table.now out.old }
 {
-    spelling::respell(table, out)
+    table_rewrite::spelling::respell(table, out)
 }
 
 // Takes back the records of an accepted table that no chain reaches, in place (Req 08): the reached ones move down, the freed end is 0; answers how many are left.
@@ -52,7 +52,7 @@ pub fn respell(table: &[u16], out: &mut [u16]) -> Result<u16, Refusal>
 pub fn compact(table: &mut [u16]) -> Result<u16, Refusal>
     ensures { record { answer = reply_of result; table = table.new } ≡ compact_of table.old }
 {
-    compaction::compact(table)
+    table_rewrite::compaction::compact(table)
 }
 
 // Builds the canonical LR(1) states of a grammar, a table of one state without items and edges (Req 01), from a start production: the full table at the front of `out`, its conflicts, five words
@@ -66,7 +66,7 @@ pub fn build_states(
 ) -> Result<Built, Refusal>
     ensures { record { answer = reply_of result; scratch = scratch.new; out = out.new; conflicts = conflicts.new } ≡ build_of table.now start.0 scratch.old out.old conflicts.old }
 {
-    builder::build_states(table, start, scratch, out, conflicts)
+    lr1_tables::build_states(table, start, scratch, out, conflicts)
 }
 
 // Reads the rules of a yacc text (docs/YACC.md) into a grammar, a table of one state without items and edges, at the front of `table` (Req 09), and where each nonterminal and each terminal got its number
@@ -234,7 +234,7 @@ fn backtrace(
     ensures { outcome (reply_of result) graph.new scratch.new ≡ trace_by (edges_by traced.action) table.now traced.state (record { production = traced.item.production; index = traced.item.index }) graph.old scratch.old (check_of table.now) }
 {
     let accepted = table_check::check(table)?;
-    tracer::trace_in(accepted, traced, graph, scratch)
+    trace::trace_in(accepted, traced, graph, scratch)
 }
 
 // The trace of a shift, back from an item in a state (part 5 of document 01): its edges at the front of the graph, whose old words are not looked at. The answer is their number.

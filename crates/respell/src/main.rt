@@ -2,9 +2,11 @@
 // A refusal is said in one line on standard error, and nothing is written. A read or a write that fails is said there too and ends the run.
 #![tactic(auto)]
 
-use pipe::{BYTES, RECORD_WORDS, Stop, WORDS, read_table_words, say_end, write_table};
-use spelling::respell;
+use program_io::table_stream::{
+    BYTES, RECORD_WORDS, Stop, WORDS, read_table_words, say_end, write_table,
+};
 use std::io;
+use table_rewrite::spelling::respell;
 
 fn respell_input<R: io::Input + Print + Eprint>(rt: &R) -> Result<(), Stop> {
     let mut bytes = [0u8; BYTES];

@@ -4,10 +4,10 @@ use mathlib.Core.Bool.{Bool, true, false, ◌||◌}
 use Prim.Native.Nat.{ℕ, ◌^◌, ◌<◌}
 use lib.ListN.{length}
 use mathlib.Core.List.{List}
-use Rattle.repr.specs.Lists.{some?}
-use Rattle.repr.specs.Meaning.{Edge, state_at}
-use Rattle.repr.specs.Listed.{symbol_of_kind, symbol_is_fit}
-use Rattle.repr.proofs.Tests.{some?-nil, some?-cons}
+use Rattle.lr1_base.specs.repr.Lists.{some?}
+use Rattle.lr1_base.specs.repr.Meaning.{Edge, state_at}
+use Rattle.lr1_base.specs.repr.Listed.{symbol_of_kind, symbol_is_fit}
+use Rattle.lr1_base.proofs.repr.Tests.{some?-nil, some?-cons}
 use Rattle.table.specs.Decoded.{meaning, edges_from}
 use Rattle.table.specs.Index.{EdgeRead}
 use Rattle.state_graph.specs.States.{states_in}

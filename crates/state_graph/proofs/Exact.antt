@@ -10,23 +10,14 @@ use native.Mathlib.Omega.{arith}
 use lib.ListN.{length, get_or, get_or-eq_default}
 use lib.Dec.{eqb, ltb}
 use borrow.Author.Tests.{eqb-true, eqb-false, ltb-true, ltb-false}
-use Rattle.repr.specs.Lists.{up_from, below, mem, keep, some?}
-use Rattle.repr.specs.Meaning.{Symbol, is_same_symbol, Edge, State, Table, state_at, no_state}
-use Rattle.repr.proofs.Lists.{cases, clash, mem-nil, mem-cons, mem-append, mem-cons_here, mem-keep, mem_below, keep_agree}
-use Rattle.repr.proofs.Tests.{some?-nil, some?-yes, some?_no, some?-cons}
-use Rattle.repr.proofs.SameSymbol.{same_equal, same_refl}
-use Rattle.lookahead.proofs.Members.{kept_ascend}
+use Rattle.lr1_base.specs.repr.Lists.{up_from, below, mem, keep, some?}
+use Rattle.lr1_base.specs.repr.Meaning.{Symbol, is_same_symbol, Edge, State, Table, state_at, no_state}
+use Rattle.lr1_base.proofs.repr.Lists.{cases, clash, mem-nil, mem-cons, mem-append, mem-cons_here, mem-keep, mem_below, keep_agree}
+use Rattle.lr1_base.proofs.repr.Tests.{some?-nil, some?-yes, some?_no, some?-cons}
+use Rattle.lr1_base.proofs.repr.SameSymbol.{same_equal, same_refl}
+use Rattle.lr1_base.proofs.lookahead.Members.{kept_ascend}
 use Rattle.state_graph.specs.Walk.{Path, stay, go, Ascending, leads, predecessors, walked_back, traced_back}
-
--- two tests that are true together are equal
-pub both_ways : (a b : Bool) → (a ≡ true → b ≡ true) → (b ≡ true → a ≡ true) → a ≡ b
-both_ways true b f g = sym (f refl)
-both_ways false true f g = g refl
-both_ways false false f g = refl
-
-pub and_both : (a b : Bool) → (a && b) ≡ true → (a ≡ true) × (b ≡ true)
-and_both true b e = (refl, e)
-and_both false b e = absurd (true≢false (sym e))
+use Rattle.lr1_base.proofs.laws.Bools.{agree as both_ways, and-true}
 
 -- some element passes: with the element, which is in the list
 module _ {ℓ} {A : Type ℓ} where
@@ -112,7 +103,7 @@ module _ (T : Table) where
   unfolding leads
   edge_leads x ss p h =
       let r = some?_member_elim (λ (e : Edge). is_same_symbol x e.symbol && mem e.target ss) (state_at T p).edges h in
-      let b = and_both (is_same_symbol x r.0.symbol) (mem r.0.target ss) r.2 in
+      let b = and-true (is_same_symbol x r.0.symbol) (mem r.0.target ss) r.2 in
       (r.0, r.1, same_equal x r.0.symbol b.0, b.1)
 
   pub walk-nil : (ss : List ℕ) → walked_back T ss [] ≡ ss

@@ -7,12 +7,12 @@ use native.Mathlib.Omega.{arith}
 use lib.Dec.{eqb, ltb}
 use lib.ListN.{length, replicate, length-replicate}
 use borrow.Author.Tests.{eqb-true, eqb-false, eq-eqb, ne_eqb, ltb-true, ltb-false, lt-ltb, le-ltb}
-use Rattle.repr.specs.Lists.{some?}
-use Rattle.repr.specs.Meaning.{Symbol, is_same_symbol, Edge, Table, TableFits, state_at}
-use Rattle.repr.specs.Listed.{symbol_of_kind, symbol_is_fit}
-use Rattle.repr.proofs.Lists.{cases, turned}
-use Rattle.repr.proofs.Listed.{symbol_range}
-use Rattle.repr.proofs.Tests.{some?-nil, some?-cons}
+use Rattle.lr1_base.specs.repr.Lists.{some?}
+use Rattle.lr1_base.specs.repr.Meaning.{Symbol, is_same_symbol, Edge, Table, TableFits, state_at}
+use Rattle.lr1_base.specs.repr.Listed.{symbol_of_kind, symbol_is_fit}
+use Rattle.lr1_base.proofs.repr.Lists.{cases, turned}
+use Rattle.lr1_base.proofs.repr.Listed.{symbol_range}
+use Rattle.lr1_base.proofs.repr.Tests.{some?-nil, some?-cons}
 use Rattle.table.specs.Checked.{Accepted}
 use Rattle.table.specs.Words.{word_at, records, loose, loose_records}
 use Rattle.table.specs.Decoded.{meaning, edges_from}
@@ -27,8 +27,8 @@ use Rattle.state_graph.proofs.Exact.{leads-outside}
 use Rattle.state_graph.proofs.States.{mem-states-word}
 use Rattle.table.proofs.Chains.{chain_end}
 use Rattle.state_graph.proofs.Steps.{stepped}
-use Rattle.bits.specs.Bits.{bit_at, bit_put}
-use Rattle.bits.proofs.Laws.{put-length, put_here, put_other, zeros_none}
+use Rattle.lr1_base.specs.bits.Bits.{bit_at, bit_put}
+use Rattle.lr1_base.proofs.bits.Laws.{put-length, put_here, put_other, zeros_none}
 use Rattle.state_graph.specs.Hits.{hit_words, goes_in, has_end_in, is_hit_now, meets, Hits}
 
 -- an edge index that is not 0 is a record of the table

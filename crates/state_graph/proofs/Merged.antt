@@ -8,9 +8,9 @@ use native.Mathlib.Omega.{arith}
 use lib.Dec.{eqb, ltb}
 use lib.ListN.{length, get_or}
 use borrow.Author.Tests.{eqb-true, ne_eqb, lt-ltb, ltb-false}
-use Rattle.repr.specs.Lists.{below, mem, keep, joined}
-use Rattle.repr.specs.Meaning.{Symbol, Table}
-use Rattle.repr.proofs.Lists.{cases, clash, mem-nil, mem_no, mem-append, mem-keep, mem_below, keep_agree, joined_nil, joined_cons}
+use Rattle.lr1_base.specs.repr.Lists.{below, mem, keep, joined}
+use Rattle.lr1_base.specs.repr.Meaning.{Symbol, Table}
+use Rattle.lr1_base.proofs.repr.Lists.{cases, clash, mem-nil, mem_no, mem-append, mem-keep, mem_below, keep_agree, joined_nil, joined_cons}
 use Rattle.state_graph.specs.Walk.{Ascending, leads, predecessors, walked_back, traced_back, above, merged}
 use Rattle.state_graph.proofs.Exact.{kept-ascending, leads-outside, walk-nil, walk-cons, walk_exact, walk-append, walk-union}
 use Rattle.state_graph.proofs.States.{one_of_range}

@@ -8,12 +8,12 @@ use lib.Bits.{bit_and, bit_or}
 use lib.Dec.{eqb, ltb}
 use lib.ListN.{length, get_or, length-append}
 use borrow.Author.Tests.{eqb-true, eqb-false, eq-eqb, ne_eqb, ltb-true, ltb-false, lt-ltb, le-ltb}
-use Rattle.repr.specs.Lists.{up_from, below, mem, keep}
-use Rattle.repr.proofs.Lists.{cases, clash, length-below, length-up_from, get_d_up_from, mem-keep, mem_below, keep-nil, keep-yes, keep_no, keep_append, keep_agree, keep-none, length-keep, length_mapped}
-use Rattle.lookahead.specs.Tokens.{has, single, union, members}
-use Rattle.lookahead.proofs.Laws.{has-none, has-below, has-union, has-single}
-use Rattle.lookahead.proofs.Members.{members-none, members_step}
-use Rattle.lookahead.proofs.Words.{shifted, contained}
+use Rattle.lr1_base.specs.repr.Lists.{up_from, below, mem, keep}
+use Rattle.lr1_base.proofs.repr.Lists.{cases, clash, length-below, length-up_from, get_d_up_from, mem-keep, mem_below, keep-nil, keep-yes, keep_no, keep_append, keep_agree, keep-none, length-keep, length_mapped}
+use Rattle.lr1_base.specs.lookahead.Tokens.{has, single, union, members}
+use Rattle.lr1_base.proofs.lookahead.Laws.{has-none, has-below, has-union, has-single}
+use Rattle.lr1_base.proofs.lookahead.Members.{members-none, members_step}
+use Rattle.lr1_base.proofs.lookahead.Words.{shifted, contained}
 use Rattle.state_graph.specs.States.{has_state, states_in}
 
 -- which word holds a state

@@ -8,14 +8,14 @@ use lib.Dec.{eqb, ltb}
 use native.Mathlib.Decide.{ℕ_discrete}
 use lib.ListN.{length, get_or, set, replicate, get_or-replicate, length-replicate, length-set}
 use lib.Seq.{get_or-set_same, get_or-set_other}
-use Rattle.repr.specs.Lists.{up_from, below, keep}
-use Rattle.repr.specs.Meaning.{Symbol, Table, TableFits}
-use Rattle.repr.specs.Listed.{symbol_of_kind, symbol_is_fit, listed, list_is_fit}
-use Rattle.repr.proofs.Listed.{symbol_range}
-use Rattle.repr.proofs.FrontSymbol.{listed_short}
-use Rattle.repr.proofs.Chunks.{back_fits, back_symbol, back_listed}
-use Rattle.repr.proofs.Parts.{length-listed}
-use Rattle.repr.proofs.Lists.{length-below, get_d_below, keep_append, keep-none, keep_agree, length-up_from, get_d_up_from}
+use Rattle.lr1_base.specs.repr.Lists.{up_from, below, keep}
+use Rattle.lr1_base.specs.repr.Meaning.{Symbol, Table, TableFits}
+use Rattle.lr1_base.specs.repr.Listed.{symbol_of_kind, symbol_is_fit, listed, list_is_fit}
+use Rattle.lr1_base.proofs.repr.Listed.{symbol_range}
+use Rattle.lr1_base.proofs.repr.FrontSymbol.{listed_short}
+use Rattle.lr1_base.proofs.repr.Chunks.{back_fits, back_symbol, back_listed}
+use Rattle.lr1_base.proofs.repr.Parts.{length-listed}
+use Rattle.lr1_base.proofs.repr.Lists.{length-below, get_d_below, keep_append, keep-none, keep_agree, length-up_from, get_d_up_from}
 use Rattle.std.specs.Prelude.{Option, Some, None}
 use Rattle.state_graph.specs.Walk.{leads, predecessors, walked_back, traced_back}
 use Rattle.state_graph.specs.States.{has_state, states_in}

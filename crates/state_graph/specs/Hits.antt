@@ -1,14 +1,14 @@
 -- The records from which a chain of edges comes to an edge by one symbol into a set of states, as the code keeps them: a bit a record. Assumes nothing: these are definitions.
 use Rattle.std.specs.Prelude.{Option, MatchOption, ℕ, Bool, true, ◌&&◌, ◌||◌, ◌≡◌, List, length, eqb, ltb}
-use Rattle.repr.specs.Lists.{mem, some?}
-use Rattle.repr.specs.Meaning.{Symbol, is_same_symbol, Edge}
-use Rattle.repr.specs.Listed.{symbol_of_kind}
+use Rattle.lr1_base.specs.repr.Lists.{mem, some?}
+use Rattle.lr1_base.specs.repr.Meaning.{Symbol, is_same_symbol, Edge}
+use Rattle.lr1_base.specs.repr.Listed.{symbol_of_kind}
 use Rattle.table.specs.Words.{word_at, records}
 use Rattle.table.specs.Decoded.{edges_from}
 use Rattle.table.specs.Refusals.{as_edge}
 use Rattle.state_graph.specs.States.{has_state, states_in}
 use Rattle.state_graph.specs.declared.StateSet.{StateSet}
-use Rattle.bits.specs.Bits.{bit_at}
+use Rattle.lr1_base.specs.bits.Bits.{bit_at}
 
 -- words for a bit a record
 abbrev pub hit_words : ℕ

@@ -1,8 +1,8 @@
 -- Steps back, as the code keeps them: each of so many places holds none or one that was made. Assumes nothing: these are definitions.
 use Rattle.std.specs.Prelude.{ℕ, ◌+◌, ◌*◌, ◌<◌, ◌≡◌, true, List, Option, Some, None, length, get_or}
-use Rattle.repr.specs.Sizes.{nonterminal_limit, terminal_limit}
-use Rattle.repr.specs.Meaning.{Table}
-use Rattle.repr.specs.Listed.{symbol_of_kind, symbol_is_fit}
+use Rattle.lr1_base.specs.repr.Sizes.{nonterminal_limit, terminal_limit}
+use Rattle.lr1_base.specs.repr.Meaning.{Table}
+use Rattle.lr1_base.specs.repr.Listed.{symbol_of_kind, symbol_is_fit}
 use Rattle.state_graph.specs.States.{states_in}
 use Rattle.state_graph.specs.Walk.{predecessors}
 use Rattle.state_graph.specs.declared.MadeStep.{MadeStep}

@@ -1,7 +1,7 @@
 -- A set of states in two words. Assumes nothing: these are definitions.
 use Rattle.std.specs.Prelude.{ℕ, ◌-◌, Bool, true, false, List, ltb}
-use Rattle.repr.specs.Lists.{below, keep}
-use Rattle.lookahead.specs.Tokens.{has}
+use Rattle.lr1_base.specs.repr.Lists.{below, keep}
+use Rattle.lr1_base.specs.lookahead.Tokens.{has}
 
 unfoldable pub has_state : ℕ → ℕ → ℕ → Bool
 has_state low high s = elim (ltb s 64) [ true ↦ has low s | false ↦ has high (s - 64) ]

@@ -1,8 +1,8 @@
 -- The state walk, part 3 of document 01 (lr1/state_graph.rs). Assumes nothing: these are definitions.
 use Rattle.std.specs.Prelude.{ℕ, suc, ◌+◌, ◌<◌, Bool, ◌&&◌, length, get_or}
 use mathlib.Core.List.{List, [], ◌∷◌, Memᴰ}
-use Rattle.repr.specs.Lists.{below, mem, keep, some?}
-use Rattle.repr.specs.Meaning.{Symbol, is_same_symbol, Edge, Table, state_at}
+use Rattle.lr1_base.specs.repr.Lists.{below, mem, keep, some?}
+use Rattle.lr1_base.specs.repr.Meaning.{Symbol, is_same_symbol, Edge, Table, state_at}
 
 -- a path of edges from a state that spells the symbols and ends at a state
 pub data Path (T : Table) : ℕ → List Symbol → ℕ → Type 0 where

@@ -3,8 +3,8 @@
 #![tactic(auto)]
 
 ghost use Rattle.std.specs.Prelude.{MatchOption, ◌≡◌, true, false, ◌&&◌, ◌||◌, ◌++◌, ℕ, ◌+◌, ◌*◌, ◌≤◌, ◌<◌, eqb, ltb, length, set, replicate};
-ghost use Rattle.repr.specs.Sizes.{record_limit};
-ghost use Rattle.repr.specs.Listed.{symbol_of_kind, symbol_is_fit, listed, list_is_fit};
+ghost use Rattle.lr1_base.specs.repr.Sizes.{record_limit};
+ghost use Rattle.lr1_base.specs.repr.Listed.{symbol_of_kind, symbol_is_fit, listed, list_is_fit};
 ghost use Rattle.table.specs.Words.{records};
 ghost use Rattle.table.specs.Decoded.{meaning};
 ghost use Rattle.std.specs.Iterator.{YieldsFirstBy, item_count};
@@ -13,10 +13,11 @@ ghost use Rattle.state_graph.specs.States.{has_state, states_in};
 ghost use Rattle.state_graph.specs.Hits.{hit_words, goes_in, has_end_in, is_hit_now, Hits, SteppedTo};
 ghost use Rattle.state_graph.specs.Remembered.{step_rows, step_places, Remembered};
 
-use bits::{is_set, put};
-use lookahead::TokenSet;
-pub use repr::StateIndex;
-use repr::{NonterminalString, Symbol};
+use lr1_base::bits::{is_set, put};
+use lr1_base::lookahead::TokenSet;
+use lr1_base::repr;
+pub use lr1_base::repr::StateIndex;
+use lr1_base::repr::{NonterminalString, Symbol};
 use table::{AcceptedTable, RECORDS, word};
 
 // A set of states: 0 to 63 in `low`, 64 to 127 in `high`. Two words and no `u128`: C is handed low and high. Every operation is total: a state above 127 is not contained and not inserted.

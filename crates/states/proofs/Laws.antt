@@ -7,19 +7,19 @@ use native.Mathlib.Omega.{arith}
 use lib.Dec.{ltb}
 use lib.ListN.{length}
 use borrow.Author.Tests.{ltb-true}
-use Rattle.repr.specs.Sizes.{record_limit}
-use Rattle.repr.specs.Meaning.{Table}
-use Rattle.repr.specs.Reply.{Reply, answered, refused}
-use Rattle.repr.proofs.Lists.{cases}
+use Rattle.lr1_base.specs.repr.Sizes.{record_limit}
+use Rattle.lr1_base.specs.repr.Meaning.{Table}
+use Rattle.lr1_base.specs.repr.Reply.{Reply, answered, refused}
+use Rattle.lr1_base.proofs.repr.Lists.{cases}
 use Rattle.table.specs.Checked.{Checked, Accepted, Refused as NotAccepted}
 use Rattle.table.specs.Decoded.{meaning}
 use Rattle.table.specs.Refusals.{check_of}
-use Rattle.table.proofs.Chains.{and-true}
-use Rattle.build.specs.Outcome.{Outcome, refused as stopped, full, outcome}
-use Rattle.build.proofs.Refusals.{outcome-full}
-use Rattle.builder.specs.Outcome.{Left, build_scratch, start_is_fit, conflict_count, built_of, built_in, build_of}
-use Rattle.builder.specs.declared.Built.{Built}
-use Rattle.builder.proofs.Written.{build-room}
+use Rattle.lr1_states.specs.canonical.Outcome.{Outcome, refused as stopped, full, outcome}
+use Rattle.lr1_states.proofs.canonical.Refusals.{outcome-full}
+use Rattle.lr1_tables.specs.Outcome.{Left, build_scratch, start_is_fit, conflict_count, built_of, built_in, build_of}
+use Rattle.lr1_tables.specs.declared.Built.{Built}
+use Rattle.lr1_tables.proofs.Written.{build-room}
+use Rattle.lr1_base.proofs.laws.Bools.{and-true}
 
 unfoldable Few : ℕ → ℕ → Reply Built → Type 0
 Few room words (answered b) = (b.records ≤ min room record_limit) × (5 * b.conflicts ≤ words)

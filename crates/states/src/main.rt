@@ -4,16 +4,16 @@
 #![tactic(auto)]
 
 ghost use Rattle.std.specs.Prelude.{◌*◌, ◌≤◌, length};
-ghost use Rattle.repr.specs.Sizes.{record_limit};
+ghost use Rattle.lr1_base.specs.repr.Sizes.{record_limit};
 
-use builder::{Built, build_states};
-use pipe::{
+use lr1_base::repr::ProductionIndex;
+use lr1_tables::{Built, build_states};
+use program_io::streams::{Failed, read};
+use program_io::table_stream::{
     BYTES, RECORD_WORDS, Stop, WORDS, WORDS_OF_CONFLICT, pass_on, read_table_words, say_end,
     write_records, write_words,
 };
-use repr::ProductionIndex;
 use std::io;
-use streams::{Failed, read};
 
 // Conflicts of a table at most.
 const CONFLICTS: usize = 65535;

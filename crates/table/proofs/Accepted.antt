@@ -8,16 +8,17 @@ use native.Mathlib.Omega.{arith}
 use lib.ListN.{length}
 use lib.Dec.{eqb, ltb, leb}
 use borrow.Author.Tests.{eqb-true, eqb-false, ltb-true, ltb-false, leb-true, leb-false, not-false, le-leb, lt-ltb}
-use Rattle.repr.specs.Sizes.{record_limit}
-use Rattle.repr.specs.Lists.{below, occurrences, joined, first?}
-use Rattle.repr.specs.Listed.{symbol_is_fit}
-use Rattle.repr.proofs.Lists.{cases}
-use Rattle.repr.proofs.Tests.{first?-below-none}
+use Rattle.lr1_base.specs.repr.Sizes.{record_limit}
+use Rattle.lr1_base.specs.repr.Lists.{below, occurrences, joined, first?}
+use Rattle.lr1_base.specs.repr.Listed.{symbol_is_fit}
+use Rattle.lr1_base.proofs.repr.Lists.{cases}
+use Rattle.lr1_base.proofs.repr.Tests.{first?-below-none}
 use Rattle.table.specs.Checked.{Accepted}
 use Rattle.table.specs.Words.{word_at, records, nonterminals, terminals, states, productions, state_area, production_area, loose, loose_records, production_records, against}
 use Rattle.table.specs.Decoded.{production_chain, symbol_chain}
 use Rattle.table.specs.Refusals.{row1, row2, row3, row4, row5, row6, row7, row8, is_nonterminal, is_state, is_production, as_symbol, as_item, as_edge, offends, first_row, check_of}
-use Rattle.table.proofs.Chains.{and-true, and_both, or-false, or_left, or_right}
+use Rattle.table.proofs.Chains.{or-false, or_left, or_right}
+use Rattle.lr1_base.proofs.laws.Bools.{and-true, both, when}
 
 -- no record of the table offends
 pub record Accepts (t : List ℕ) : Type 0 where
@@ -104,16 +105,16 @@ accepts t e =
 
 pub nonterminal-place : (t : List ℕ) (n : ℕ) → n < nonterminals t → is_nonterminal t (1 + n) ≡ true
 unfolding is_nonterminal state_area
-nonterminal-place t n h = and_both _ _ (le-leb 1 (1 + n) (omega arith)) (lt-ltb (1 + n) (1 + nonterminals t) (omega arith))
+nonterminal-place t n h = both _ _ (le-leb 1 (1 + n) (omega arith)) (lt-ltb (1 + n) (1 + nonterminals t) (omega arith))
 
 pub state_place : (t : List ℕ) (s : ℕ) → s < states t → is_state t (state_area t + s) ≡ true
 unfolding is_state production_area
-state_place t s h = and_both _ _ (le-leb (state_area t) (state_area t + s) (omega arith)) (lt-ltb (state_area t + s) (state_area t + states t) (omega arith))
+state_place t s h = both _ _ (le-leb (state_area t) (state_area t + s) (omega arith)) (lt-ltb (state_area t + s) (state_area t + states t) (omega arith))
 
 pub production_place_lem : (t : List ℕ) (p : ℕ) → p < productions t → is_production t (production_area t + p) ≡ true
 unfolding is_production loose
 production_place_lem t p h =
-    and_both _ _ (le-leb (production_area t) (production_area t + p) (omega arith)) (lt-ltb (production_area t + p) (production_area t + productions t) (omega arith))
+    both _ _ (le-leb (production_area t) (production_area t + p) (omega arith)) (lt-ltb (production_area t + p) (production_area t + productions t) (omega arith))
 
 pub production_in_lem : (t : List ℕ) (r : ℕ) → is_production t r ≡ true → (production_area t ≤ r) × (r < loose t)
 unfolding is_production
@@ -131,9 +132,6 @@ unfolding state_area production_area loose
 areas_of t = record { state_area_lem = refl; production_area_lem = refl; loose-area = refl }
 
 -- what the rows leave
-
-when : (a b : Bool) → a && b ≡ false → a ≡ true → b ≡ false
-when a b e q = rw q at e
 
 -- row 3 by what holds the index
 pub record Indexes (t : List ℕ) (r : ℕ) : Type 0 where

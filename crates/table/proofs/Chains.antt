@@ -7,18 +7,12 @@ use Prim.Native.Nat.{ℕ, zero, suc, ◌+◌, ◌≤◌, ◌<◌}
 use native.Mathlib.Omega.{arith}
 use lib.Dec.{eqb, ltb, leb}
 use borrow.Author.Tests.{eqb-true, eqb-false, ne_eqb, ltb-true, lt-ltb, leb-true, le-leb, not-false}
-use Rattle.repr.specs.Lists.{mem, occurrences}
-use Rattle.repr.proofs.Lists.{cases, clash, mem-nil, mem_no, mem-cons_here, mem-cons_there, occurrences-yes, occurrences_no, occurrences-none}
+use Rattle.lr1_base.specs.repr.Lists.{mem, occurrences}
+use Rattle.lr1_base.proofs.repr.Lists.{cases, clash, mem-nil, mem_no, mem-cons_here, mem-cons_there, occurrences-yes, occurrences_no, occurrences-none}
 use Rattle.table.specs.Words.{word_at, records, loose, Area, production_records, loose_records, names, against, chain_by, chain}
+use Rattle.lr1_base.proofs.laws.Bools.{and-true}
 
 -- two tests
-
-pub and-true : (a b : Bool) → a && b ≡ true → (a ≡ true) × (b ≡ true)
-and-true true b e = (refl, e)
-and-true false b e = clash false e refl
-
-pub and_both : (a b : Bool) → a ≡ true → b ≡ true → a && b ≡ true
-and_both a b e f = rw (e, f)
 
 pub or-false : (a b : Bool) → a || b ≡ false → (a ≡ false) × (b ≡ false)
 or-false true b e = clash true refl e

@@ -2,8 +2,8 @@
 use mathlib.Core.Path.{◌≡◌, refl}
 use mathlib.Core.List.{[], ◌∷◌, map}
 use lib.ListN.{set}
-use Rattle.repr.specs.Lists.{up_from, below, mem, occurrences, first?, some?, joined}
-use Rattle.repr.specs.Listed.{symbol_is_fit}
+use Rattle.lr1_base.specs.repr.Lists.{up_from, below, mem, occurrences, first?, some?, joined}
+use Rattle.lr1_base.specs.repr.Listed.{symbol_is_fit}
 use Rattle.table.specs.Checked.{Accepted, Refused}
 use Rattle.table.specs.Words.{word_at, records, state_area, production_area, loose, production_records, loose_records, names, against, chain_by, chain}
 use Rattle.table.specs.Decoded.{production_chain, symbol_chain, item_chain, edge_chain}

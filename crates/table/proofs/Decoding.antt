@@ -8,11 +8,11 @@ use Prim.Native.Nat.{ℕ, zero, suc, ◌+◌, ◌-◌, ◌≤◌, ◌<◌}
 use native.Mathlib.Omega.{arith}
 use lib.ListN.{length, get_or}
 use borrow.Author.Tests.{ltb-true}
-use Rattle.repr.specs.Lists.{below, mem, first?, joined}
-use Rattle.repr.specs.Meaning.{Production, Table, no_production, no_state, production_at, state_at, SymbolFits, All, ProductionFits, ItemFits, EdgeFits, StateFits, TableFits}
-use Rattle.repr.specs.Listed.{symbol_of_kind, symbol_is_fit}
-use Rattle.repr.proofs.Lists.{cases, clash, length_mapped, length-map-below, get_d_map-below, mem_below, occurrences-none}
-use Rattle.repr.proofs.Tests.{first?-below, first?-below-none, some?-below_witness, mem-joined}
+use Rattle.lr1_base.specs.repr.Lists.{below, mem, first?, joined}
+use Rattle.lr1_base.specs.repr.Meaning.{Production, Table, no_production, no_state, production_at, state_at, SymbolFits, All, ProductionFits, ItemFits, EdgeFits, StateFits, TableFits}
+use Rattle.lr1_base.specs.repr.Listed.{symbol_of_kind, symbol_is_fit}
+use Rattle.lr1_base.proofs.repr.Lists.{cases, clash, length_mapped, length-map-below, get_d_map-below, mem_below, occurrences-none}
+use Rattle.lr1_base.proofs.repr.Tests.{first?-below, first?-below-none, some?-below_witness, mem-joined}
 use Rattle.table.specs.Checked.{Accepted}
 use Rattle.table.specs.Words.{word_at, nonterminals, terminals, states, productions, production_area, loose, production_records}
 use Rattle.table.specs.Decoded.{production_chain, symbol_chain, item_chain, edge_chain, symbol_at, item_at, edge_at, or_zero, owner_of, production_of, state_of, productions_of, meaning}

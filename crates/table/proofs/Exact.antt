@@ -8,9 +8,9 @@ use mathlib.Core.Option.{Option, none, some}
 use Prim.Native.Nat.{ℕ, zero, suc, ◌+◌, ◌≤◌, ◌<◌}
 use native.Mathlib.Omega.{arith}
 use native.Mathlib.Decide.{ℕ_discrete}
-use Rattle.repr.specs.Lists.{up_from, below, first?}
-use Rattle.repr.proofs.Lists.{cases, length-below, get_d_below}
-use Rattle.repr.proofs.Tests.{first?-none_intro, first?-below, first?-below_intro, first?-below-none}
+use Rattle.lr1_base.specs.repr.Lists.{up_from, below, first?}
+use Rattle.lr1_base.proofs.repr.Lists.{cases, length-below, get_d_below}
+use Rattle.lr1_base.proofs.repr.Tests.{first?-none_intro, first?-below, first?-below_intro, first?-below-none}
 use Rattle.table.specs.Checked.{Accepted, Refused}
 use Rattle.table.specs.Words.{records}
 use Rattle.table.specs.Refusals.{row1, row2, offends, first_row, check_of}

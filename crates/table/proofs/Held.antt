@@ -6,10 +6,10 @@ use Prim.Native.Nat.{ℕ, ◌+◌, ◌≤◌, ◌<◌}
 use native.Mathlib.Omega.{arith}
 use lib.Dec.{eqb}
 use borrow.Author.Tests.{eqb-true, eqb-false}
-use Rattle.repr.specs.Sizes.{record_limit}
-use Rattle.repr.specs.Lists.{below, mem, some?}
-use Rattle.repr.proofs.Lists.{cases}
-use Rattle.repr.proofs.Tests.{some?-below, some?-below_witness}
+use Rattle.lr1_base.specs.repr.Sizes.{record_limit}
+use Rattle.lr1_base.specs.repr.Lists.{below, mem, some?}
+use Rattle.lr1_base.proofs.repr.Lists.{cases}
+use Rattle.lr1_base.proofs.repr.Tests.{some?-below, some?-below_witness}
 use Rattle.table.specs.Words.{word_at, records, states, productions, state_area, production_area, loose, loose_records, against, chain}
 use Rattle.table.specs.Decoded.{symbol_chain, item_chain, edge_chain}
 use Rattle.table.specs.Refusals.{as_symbol, as_item, as_edge}

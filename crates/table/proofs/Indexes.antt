@@ -7,18 +7,19 @@ use native.Mathlib.Omega.{arith}
 use lib.ListN.{length, get_or}
 use lib.Dec.{eqb}
 use borrow.Author.Tests.{eqb-true, eqb-false, le-leb, lt-ltb}
-use Rattle.repr.specs.Sizes.{record_limit}
-use Rattle.repr.specs.Meaning.{State, state_at}
-use Rattle.repr.proofs.Lists.{cases}
+use Rattle.lr1_base.specs.repr.Sizes.{record_limit}
+use Rattle.lr1_base.specs.repr.Meaning.{State, state_at}
+use Rattle.lr1_base.proofs.repr.Lists.{cases}
 use Rattle.table.specs.Checked.{Accepted}
 use Rattle.table.specs.Words.{word_at, records, nonterminals, states, productions, state_area, production_area, loose, loose_records, production_records, against, names, chain}
 use Rattle.table.specs.Decoded.{production_chain, item_chain, edge_chain, item_at, edge_at, state_of, productions_of, meaning, items_from, edges_from, productions_from}
 use Rattle.table.specs.Refusals.{is_production, check_of}
 use Rattle.table.specs.Index.{CountsOf, ItemIndex, EdgeIndex, ProductionHead, ItemRead, EdgeRead, ProductionRead}
-use Rattle.table.proofs.Chains.{and_both, named, names_good, good_of, chain-step, chain-from, loose-whole, production-whole}
+use Rattle.table.proofs.Chains.{named, names_good, good_of, chain-step, chain-from, loose-whole, production-whole}
 use Rattle.table.proofs.Accepted.{Accepts, accepts, areas_of, nonterminal-head, item-head, edge_head, production-next, production_in_lem}
 use Rattle.table.proofs.Held.{item-inside, edge_inside, item-first_as, edge_first_as, item_on, edge_on, item-next_as, edge_next_as, loose_small, loose-later}
 use Rattle.table.proofs.Decoding.{many_nonterminals, many_terminals, many_states, many_productions, nonterminal_at, state_at_lem, fits, item_fits, edge_in_range, target_in_range}
+use Rattle.lr1_base.proofs.laws.Bools.{both}
 
 -- a record of the table, as the code asks for it
 pub inside : (t : List ℕ) → Accepts t → (r k : ℕ) → r < records t → k < 4 → (r < record_limit) × ((k < 4) × (r * 4 + k < length t))
@@ -106,7 +107,7 @@ module _ (t : List ℕ) (A : Accepts t) where
         (λ q. let z = eqb-true x 0 q in omega arith)
         (λ q. let n = named (production_records t) r x (good_of (production_records t) r x e (eqb-false x 0 q)) in omega (arith, A.areas, A.few_records));
     inside = λ ne. let n = named (production_records t) r x (good_of (production_records t) r x e ne) in
-        and_both _ _ (le-leb (production_area t) x n.inside) (lt-ltb x (loose t) n.early);
+        both _ _ (le-leb (production_area t) x n.inside) (lt-ltb x (loose t) n.early);
   }
 
   pub production-first : (n x : ℕ) → n < nonterminals t → x ≡ word_at t (1 + n) 0 → (productions_from t x ≡ get_or (meaning t).nonterminals n []) × ProductionHead t x

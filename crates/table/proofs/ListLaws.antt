@@ -7,9 +7,9 @@ use native.Mathlib.Omega.{arith}
 use lib.ListN.{length, get_or}
 use lib.Dec.{eqb, ltb}
 use borrow.Author.Tests.{eqb-true, eqb-false, ltb-true, ltb-false}
-use Rattle.repr.specs.Lists.{below, mem, occurrences, joined}
-use Rattle.repr.specs.Meaning.{All}
-use Rattle.repr.proofs.Lists.{cases, clash, length-below, get_d_below, mem-nil, mem_no, mem-cons_here, mem-cons_there, occurrences-append, occurrences-some, joined_cons}
+use Rattle.lr1_base.specs.repr.Lists.{below, mem, occurrences, joined}
+use Rattle.lr1_base.specs.repr.Meaning.{All}
+use Rattle.lr1_base.proofs.repr.Lists.{cases, clash, length-below, get_d_below, mem-nil, mem_no, mem-cons_here, mem-cons_there, occurrences-append, occurrences-some, joined_cons}
 
 pub mem-map_in : (f : ℕ → ℕ) (x : ℕ) (xs : List ℕ) → mem x xs ≡ true → mem (f x) (map f xs) ≡ true
 mem-map_in f x [] m = clash (mem x []) m (mem-nil x)

@@ -7,8 +7,8 @@ use lib.ListN.{length, get_or, take, set, length-set}
 use lib.Seq.{get_or-set_same, get_or-set_other, ext_get_or}
 use lib.Dec.{eqb}
 use borrow.Author.Tests.{eqb-true, eqb-false}
-use Rattle.repr.specs.Lists.{below}
-use Rattle.repr.proofs.Lists.{cases, length-map-below, get_d_map-below}
+use Rattle.lr1_base.specs.repr.Lists.{below}
+use Rattle.lr1_base.proofs.repr.Lists.{cases, length-map-below, get_d_map-below}
 use Rattle.table.specs.Words.{word_at, records}
 use Rattle.table.specs.Quads.{Quad, no_quad, words, quad_at, put_quad}
 

@@ -5,8 +5,8 @@ use mathlib.Core.List.{List}
 use mathlib.Core.Logic.{◌↔◌}
 use Prim.Native.Nat.{ℕ, ◌+◌, ◌≤◌, ◌<◌}
 use native.Mathlib.Omega.{arith}
-use Rattle.repr.specs.Lists.{mem}
-use Rattle.repr.proofs.Tests.{some?-below, some?-below_witness}
+use Rattle.lr1_base.specs.repr.Lists.{mem}
+use Rattle.lr1_base.proofs.repr.Tests.{some?-below, some?-below_witness}
 use Rattle.table.specs.Words.{word_at, records, states, productions, state_area, production_area, loose, loose_records, names, chain}
 use Rattle.table.specs.Decoded.{symbol_chain, item_chain, edge_chain}
 use Rattle.table.specs.Refusals.{as_symbol, as_item, as_edge}

@@ -9,15 +9,15 @@ use lib.ListN.{length, get_or, take, drop, set, length-set, length-take, length-
 use lib.Seq.{get_or-set_same, get_or-set_other, take-suc-set, drop-set-add, drop-set-lt, get_or-take, get_or-drop, ext_get_or, length-take-le}
 use lib.Dec.{eqb, ltb}
 use borrow.Author.Tests.{eqb-true, eqb-false, ltb-true, ltb-false}
-use Rattle.repr.specs.Sizes.{nonterminal_limit, terminal_limit, production_place, grammar_room}
-use Rattle.repr.specs.Lists.{below, mem}
-use Rattle.repr.specs.Meaning.{Symbol, Production, Table, production_at, no_production, ProductionFits}
-use Rattle.repr.specs.Listed.{symbol_of_kind, listed, symbol_is_fit, list_is_fit}
-use Rattle.repr.specs.Packed.{symbol_words, production_in, productions_in, Packed}
-use Rattle.repr.proofs.Listed.{symbol_range, symbol_wider}
-use Rattle.repr.proofs.Joined.{listed-append, fits-append, fits_one}
-use Rattle.repr.proofs.Lists.{cases, clash, mem-nil, mem_no, mem-cons_here, mem-cons_there, length-map-below, get_d_map-below}
-use Rattle.repr.proofs.Tests.{All_at}
+use Rattle.lr1_base.specs.repr.Sizes.{nonterminal_limit, terminal_limit, production_place, grammar_room}
+use Rattle.lr1_base.specs.repr.Lists.{below, mem}
+use Rattle.lr1_base.specs.repr.Meaning.{Symbol, Production, Table, production_at, no_production, ProductionFits}
+use Rattle.lr1_base.specs.repr.Listed.{symbol_of_kind, listed, symbol_is_fit, list_is_fit}
+use Rattle.lr1_base.specs.repr.Packed.{symbol_words, production_in, productions_in, Packed}
+use Rattle.lr1_base.proofs.repr.Listed.{symbol_range, symbol_wider}
+use Rattle.lr1_base.proofs.repr.Joined.{listed-append, fits-append, fits_one}
+use Rattle.lr1_base.proofs.repr.Lists.{cases, clash, mem-nil, mem_no, mem-cons_here, mem-cons_there, length-map-below, get_d_map-below}
+use Rattle.lr1_base.proofs.repr.Tests.{All_at}
 use Rattle.table.specs.Checked.{Accepted}
 use Rattle.table.specs.Words.{word_at, productions, production_area, loose_records, chain, production_records}
 use Rattle.table.specs.Decoded.{symbol_chain, symbol_at, production_of, meaning, productions_from}
@@ -175,7 +175,7 @@ listed_snoc n ws k x l = listed-append ws (k ∷ x ∷ []) (omega arith)
 pub fits_snoc : (n t m : ℕ) (ws : List ℕ) (k x : ℕ) → length ws ≡ 2 * m → list_is_fit n t ws ≡ true → symbol_is_fit n t k x ≡ true → list_is_fit n t (ws ++ k ∷ x ∷ []) ≡ true
 fits_snoc n t m ws k x l e f = fits-append n t ws (k ∷ x ∷ []) (omega arith) ∙ rw (e, fits_one n t k x, f)
 
-put_two : (g : List ℕ) (a j k x : ℕ) → a + j + 1 < length g → take (j + 2) (drop a (set (set g (a + j) k) (a + j + 1) x)) ≡ take j (drop a g) ++ k ∷ x ∷ []
+pub put_two : (g : List ℕ) (a j k x : ℕ) → a + j + 1 < length g → take (j + 2) (drop a (set (set g (a + j) k) (a + j + 1) x)) ≡ take j (drop a g) ++ k ∷ x ∷ []
 put_two g a j k x h =
     let e : a + j + 1 ≡ a + suc j = omega arith in
     let d = length-drop a g in
@@ -293,7 +293,7 @@ module _ (t : List ℕ) (e : check_of t ≡ Accepted) where
 
 -- number of symbols and span
 
-made : (a b : ℕ) (s u : List Symbol) (c d f g : ℕ) → a ≡ b → s ≡ u → c ≡ d → f ≡ g
+pub made : (a b : ℕ) (s u : List Symbol) (c d f g : ℕ) → a ≡ b → s ≡ u → c ≡ d → f ≡ g
     → ◌≡◌ {A = Production} (record { nonterminal = a; symbols = s; start = c; end = f }) (record { nonterminal = b; symbols = u; start = d; end = g })
 made a b s u c d f g p q r o = rw (p, q, r, o)
 

@@ -1,9 +1,9 @@
 -- One decoding of the words into their meaning. Assumes nothing: these are definitions.
 use Rattle.std.specs.Prelude.{ℕ, ◌+◌, ◌-◌, List, map}
 use Rattle.std.proofs.Math.Option.{Option, none, some}
-use Rattle.repr.specs.Lists.{below, mem, first?}
-use Rattle.repr.specs.Meaning.{Symbol, Production, Item, Edge, State, Table}
-use Rattle.repr.specs.Listed.{symbol_of_kind}
+use Rattle.lr1_base.specs.repr.Lists.{below, mem, first?}
+use Rattle.lr1_base.specs.repr.Meaning.{Symbol, Production, Item, Edge, State, Table}
+use Rattle.lr1_base.specs.repr.Listed.{symbol_of_kind}
 use Rattle.table.specs.Words.{word_at, nonterminals, terminals, states, productions, state_area, production_area, loose_records, production_records, chain}
 
 -- the records of a nonterminal's productions, of a production's symbols, of a state's items and edges

@@ -1,9 +1,9 @@
 -- What reading an accepted table gives. An index into a chain is 0, or a record that is reached as what the chain holds.
 -- Assumes nothing: these are definitions.
 use Rattle.std.specs.Prelude.{ℕ, ◌<◌, true, ◌≡◌, List, ◌∷◌, length}
-use Rattle.repr.specs.Sizes.{record_limit}
-use Rattle.repr.specs.Meaning.{Table, ItemFits, TableFits}
-use Rattle.repr.specs.Listed.{symbol_of_kind, symbol_is_fit}
+use Rattle.lr1_base.specs.repr.Sizes.{record_limit}
+use Rattle.lr1_base.specs.repr.Meaning.{Table, ItemFits, TableFits}
+use Rattle.lr1_base.specs.repr.Listed.{symbol_of_kind, symbol_is_fit}
 use Rattle.table.specs.Decoded.{meaning, items_from, edges_from, productions_from}
 use Rattle.table.specs.Refusals.{as_item, as_edge, is_production}
 

@@ -8,3 +8,4 @@ pub mod Written
 pub mod TableB
 pub mod Quads
 pub mod Steps
+pub use Rattle.lr1_base.specs.repr

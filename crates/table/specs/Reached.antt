@@ -1,7 +1,7 @@
 -- "Reached as" as a relation by chains: what `as_symbol`, `as_item` and `as_edge` of specs/Refusals decide (`reached_is` of proofs/Reached).
 -- Assumes nothing: these are definitions.
 use Rattle.std.specs.Prelude.{ℕ, ◌+◌, ◌<◌, Bool, true, ◌≡◌, List}
-use Rattle.repr.specs.Lists.{below, mem, some?}
+use Rattle.lr1_base.specs.repr.Lists.{below, mem, some?}
 use Rattle.table.specs.Words.{word_at, loose_records, names, chain}
 
 -- from the heads in word k of the n records from `first` on, by next indexes that keep the rule

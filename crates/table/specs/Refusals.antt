@@ -1,8 +1,8 @@
 -- Refusals 1 to 8 of document 01's table, one test for each row and record; `check_of` is what `check` answers. Assumes nothing: these are definitions.
 use Rattle.std.specs.Prelude.{ℕ, ◌-◌, ◌%◌, Bool, true, false, ◌&&◌, ◌||◌, not, List, [], ◌∷◌, length, eqb, ltb, leb}
 use Rattle.std.proofs.Math.Option.{none, some}
-use Rattle.repr.specs.Listed.{symbol_is_fit}
-use Rattle.repr.specs.Lists.{below, mem, occurrences, first?, some?, joined}
+use Rattle.lr1_base.specs.repr.Listed.{symbol_is_fit}
+use Rattle.lr1_base.specs.repr.Lists.{below, mem, occurrences, first?, some?, joined}
 use Rattle.table.specs.Checked.{Checked, Accepted, Refused}
 use Rattle.table.specs.Words.{word_at, records, nonterminals, terminals, states, productions, state_area, production_area, loose, loose_records, production_records, against}
 use Rattle.table.specs.Decoded.{production_chain, symbol_chain, item_chain, edge_chain}

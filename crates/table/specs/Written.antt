@@ -1,10 +1,10 @@
--- What the parts of `read_productions` leave in the words (specs/Packed of repr): t is the table, g the words before and g' after.
+-- What the parts of `read_productions` leave in the words (specs/repr/Packed of lr1_base): t is the table, g the words before and g' after.
 -- Assumes nothing: these are definitions.
 use Rattle.std.specs.Prelude.{ℕ, ◌+◌, ◌*◌, ◌≤◌, ◌<◌, true, ◌≡◌, List, ◌∷◌, map, length, get_or, take, drop}
-use Rattle.repr.specs.Sizes.{record_limit, nonterminal_limit, terminal_limit, production_place, grammar_room}
-use Rattle.repr.specs.Meaning.{Symbol, Table, production_at}
-use Rattle.repr.specs.Listed.{symbol_of_kind, listed, symbol_is_fit, list_is_fit}
-use Rattle.repr.specs.Packed.{symbol_words, production_in}
+use Rattle.lr1_base.specs.repr.Sizes.{record_limit, nonterminal_limit, terminal_limit, production_place, grammar_room}
+use Rattle.lr1_base.specs.repr.Meaning.{Symbol, Table, production_at}
+use Rattle.lr1_base.specs.repr.Listed.{symbol_of_kind, listed, symbol_is_fit, list_is_fit}
+use Rattle.lr1_base.specs.repr.Packed.{symbol_words, production_in}
 use Rattle.table.specs.Words.{loose_records, chain}
 use Rattle.table.specs.Decoded.{symbol_at, meaning}
 use Rattle.table.specs.Refusals.{as_symbol}

@@ -1,9 +1,9 @@
 // An accepted table: what the check answered is kept in the type, and reading it asks for nothing more.
 
 ghost use Rattle.std.specs.Prelude.{◌≡◌, [], ◌+◌, ◌≤◌, ◌<◌, length, get_or};
-ghost use Rattle.repr.specs.Sizes.{record_limit, grammar_room};
-ghost use Rattle.repr.specs.Meaning.{state_at, production_at};
-ghost use Rattle.repr.specs.Packed.{Packed, productions_in};
+ghost use Rattle.lr1_base.specs.repr.Sizes.{record_limit, grammar_room};
+ghost use Rattle.lr1_base.specs.repr.Meaning.{state_at, production_at};
+ghost use Rattle.lr1_base.specs.repr.Packed.{Packed, productions_in};
 ghost use Rattle.table.specs.Words.{records, state_area, production_area};
 ghost use Rattle.table.specs.Checked.{Accepted};
 ghost use Rattle.table.specs.Decoded.{meaning, items_from, edges_from, productions_from};
@@ -15,7 +15,7 @@ use crate::{
     Counts, EdgeIter, EdgeRecord, ItemIter, ItemRecord, ProductionIter, ProductionRecord,
     RECORD_WORDS, word,
 };
-use repr::{Grammar, ProductionIndex, Symbol};
+use lr1_base::repr::{Grammar, ProductionIndex, Symbol};
 
 // A symbol, its kind and number as they are copied into packed words, and the index of the next.
 #[derive(Clone, Copy)]
@@ -203,7 +203,7 @@ impl<'a> AcceptedTable<'a> {
         }
     }
 
-    // Stores a production's symbols, and returns how many they are. `RecordIter` of crate spelling, above, says of a chain what records it has; here they are symbols.
+    // Stores a production's symbols, and returns how many they are. `RecordIter` of module spelling of table_rewrite, above, says of a chain what records it has; here they are symbols.
     fn store_symbols(self, grammar: &mut [u16], production: usize) -> usize
         requires { (length grammar.old ≡ grammar_room) × (production < length (meaning self.words.now).productions) }
         ensures { SymbolsStored self.entry.words.now grammar.old grammar.new production result }
@@ -248,7 +248,7 @@ impl<'a> AcceptedTable<'a> {
         }
     }
 
-    // Writes the productions into words, as specs/Packed of repr has them: a slice here and above, since the words may be a part of a lent scratch (examples::prepare).
+    // Writes the productions into words, as specs/repr/Packed of lr1_base has them: a slice here and above, since the words may be a part of a lent scratch (examples::prepare).
     pub fn read_productions(self, grammar: &mut [u16])
         requires { length grammar.old ≡ grammar_room }
         ensures { Packed grammar.new (length (meaning self.entry.words.now).productions) × (productions_in grammar.new (length (meaning self.entry.words.now).productions) ≡ (meaning self.entry.words.now).productions) }

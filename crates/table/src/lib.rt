@@ -6,7 +6,7 @@ mod accepted_table;
 mod iter;
 
 ghost use Rattle.std.specs.Prelude.{◌≡◌, ◌+◌, ◌*◌, ◌≤◌, ◌<◌, length};
-ghost use Rattle.repr.specs.Sizes.{record_limit};
+ghost use Rattle.lr1_base.specs.repr.Sizes.{record_limit};
 ghost use Rattle.table.specs.Words.{word_at};
 ghost use Rattle.table.specs.Quads.{put_quad};
 ghost use Rattle.table.specs.Decoded.{meaning};

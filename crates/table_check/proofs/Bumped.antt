@@ -9,9 +9,9 @@ use lib.ListN.{length, get_or, set, replicate, get_or-replicate, length-replicat
 use lib.Seq.{get_or-set_same, get_or-set_other}
 use lib.Dec.{eqb}
 use borrow.Author.Tests.{eqb-true, eqb-false}
-use Rattle.repr.specs.Lists.{up_from, below, mem, occurrences, joined}
-use Rattle.repr.proofs.Lists.{cases, occurrences-nil, occurrences-yes, occurrences_no, mem-cons_here, mem-cons_there, joined_cons}
-use Rattle.repr.proofs.Tests.{mem-joined, some?-below_witness}
+use Rattle.lr1_base.specs.repr.Lists.{up_from, below, mem, occurrences, joined}
+use Rattle.lr1_base.proofs.repr.Lists.{cases, occurrences-nil, occurrences-yes, occurrences_no, mem-cons_here, mem-cons_there, joined_cons}
+use Rattle.lr1_base.proofs.repr.Tests.{mem-joined, some?-below_witness}
 use Rattle.table.specs.Words.{productions, nonterminals, production_area, production_records}
 use Rattle.table.specs.Decoded.{production_chain}
 use Rattle.table.proofs.Chains.{chain_member}

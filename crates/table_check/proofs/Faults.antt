@@ -8,11 +8,11 @@ use native.Mathlib.Omega.{arith}
 use lib.ListN.{length}
 use lib.Dec.{eqb, ltb, leb}
 use borrow.Author.Tests.{ne_eqb, lt-ltb, le-ltb, le-leb, lt-leb, ltb-false, leb-false}
-use Rattle.bits.specs.Bits.{bit_at}
-use Rattle.repr.specs.Sizes.{index_limit}
-use Rattle.repr.specs.Lists.{below, first?, occurrences, joined}
-use Rattle.repr.proofs.Lists.{cases}
-use Rattle.repr.proofs.Tests.{first?-yes, first?_no, first?-below-none}
+use Rattle.lr1_base.specs.bits.Bits.{bit_at}
+use Rattle.lr1_base.specs.repr.Sizes.{index_limit}
+use Rattle.lr1_base.specs.repr.Lists.{below, first?, occurrences, joined}
+use Rattle.lr1_base.proofs.repr.Lists.{cases}
+use Rattle.lr1_base.proofs.repr.Tests.{first?-yes, first?_no, first?-below-none}
 use Rattle.table.specs.Checked.{Accepted, Refused}
 use Rattle.table.specs.Words.{word_at, records, productions, state_area, production_area, loose, loose_records, production_records, against}
 use Rattle.table.specs.Decoded.{or_zero, production_chain, symbol_chain}
@@ -22,7 +22,7 @@ use Rattle.table.proofs.Reached.{reached-loose, symbol_is, item_is, edge_is_lem,
 use Rattle.table_check.specs.Passed.{Reaching}
 use Rattle.table_check.specs.Faults.{choose, index_bad, symbol_bad, item_bad, range_bad, spare_bad, tried, fault_at, fault_of_nonterminal, fault_of_state, fault_of_production, fault_of_loose, first_by, Best}
 use Rattle.table_check.proofs.Passed.{marked}
-use Rattle.table_check.proofs.FirstRow.{lowest, Rising, by_some, by_none, by_accepted, by_refused}
+use Rattle.table_check.proofs.FirstRow.{lowest, Rising, by_some, by_none, by_accepted, by_refused, lowest_nil}
 
 -- ---- six tests in order
 chosen : Bool → Bool → Bool → Bool → Bool → Bool → ℕ
@@ -31,10 +31,6 @@ chosen b3 b4 b5 b6 b7 b8 = choose b3 3 (choose b4 4 (choose b5 5 (choose b6 6 (c
 lowest_cons : (off : ℕ → Bool) (n : ℕ) (ns : List ℕ) → lowest off (n ∷ ns) ≡ choose (off n) n (lowest off ns)
 unfolding lowest or_zero choose
 lowest_cons off n ns = cases (off n) (λ e. rw e (ap or_zero (first?-yes off n ns e))) (λ e. rw e (ap or_zero (first?_no off n ns e)))
-
-lowest_end : (off : ℕ → Bool) → lowest off [] ≡ 0
-unfolding lowest or_zero first?
-lowest_end off = refl
 
 six : (t : List ℕ) (r : ℕ) → fault_at t r ≡ chosen (row3 t r) (row4 t r) (row5 t r) (row6 t r) (range_bad t r (as_item t r) (as_edge t r)) (row8 t r)
 unfolding fault_at tried offends lowest chosen
@@ -46,7 +42,7 @@ six t r =
     ∙ ap (choose (row5 t r) 5) (lowest_cons off 6 (7 ∷ 8 ∷ [])
     ∙ ap (choose (row6 t r) 6) (lowest_cons off 7 (8 ∷ [])
     ∙ ap (choose (range_bad t r (as_item t r) (as_edge t r)) 7) (lowest_cons off 8 []
-    ∙ ap (choose (row8 t r) 8) (lowest_end off))))))
+    ∙ ap (choose (row8 t r) 8) (lowest_nil off))))))
 
 -- ---- what a record is
 states-before : (t : List ℕ) → state_area t ≤ production_area t

@@ -7,9 +7,9 @@ use mathlib.Core.Option.{none, some}
 use Prim.Native.Nat.{ℕ, ◌<◌}
 use native.Mathlib.Omega.{arith}
 use native.Mathlib.Decide.{ℕ_discrete}
-use Rattle.repr.specs.Lists.{below, first?}
-use Rattle.repr.proofs.Lists.{cases}
-use Rattle.repr.proofs.Tests.{first?-nil, first?-yes, first?_no, first?-below_intro}
+use Rattle.lr1_base.specs.repr.Lists.{below, first?}
+use Rattle.lr1_base.proofs.repr.Lists.{cases}
+use Rattle.lr1_base.proofs.repr.Tests.{first?-nil, first?-yes, first?_no, first?-below_intro}
 use Rattle.table.specs.Checked.{Accepted, Refused}
 use Rattle.table.specs.Decoded.{or_zero}
 use Rattle.table.proofs.Exact.{none_in}
@@ -32,7 +32,7 @@ lowest_no : (off : ℕ → Bool) (n : ℕ) (ns : List ℕ) → off n ≡ false �
 unfolding lowest
 lowest_no off n ns e = ap or_zero (first?_no off n ns e)
 
-lowest_nil : (off : ℕ → Bool) → lowest off [] ≡ 0
+pub lowest_nil : (off : ℕ → Bool) → lowest off [] ≡ 0
 unfolding lowest or_zero
 lowest_nil off = ap or_zero (first?-nil off)
 

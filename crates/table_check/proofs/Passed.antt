@@ -6,12 +6,12 @@ use Prim.Native.Nat.{ℕ, ◌+◌, ◌/◌, ◌≤◌, ◌<◌}
 use native.Mathlib.Omega.{arith}
 use native.Mathlib.Decide.{ℕ_discrete}
 use lib.ListN.{length}
-use Rattle.bits.specs.Bits.{bit_at, bit_put}
-use Rattle.bits.proofs.Laws.{put-length, put_here, put_other, zeros_none}
+use Rattle.lr1_base.specs.bits.Bits.{bit_at, bit_put}
+use Rattle.lr1_base.proofs.bits.Laws.{put-length, put_here, put_other, zeros_none}
 use Rattle.table.specs.Words.{Area, word_at, loose, loose_records, names}
 use Rattle.table.specs.Reached.{Reached, head, next, reached_by}
 use Rattle.table.proofs.Reached.{loose-named, reached, by_reached}
-use Rattle.repr.proofs.Lists.{cases, clash}
+use Rattle.lr1_base.proofs.repr.Lists.{cases, clash}
 use Rattle.table_check.specs.Passed.{Blank, Passed, Reaching}
 
 -- the test of the code is the rule

@@ -7,7 +7,7 @@ use native.Mathlib.Omega.{arith}
 use lib.ListN.{length, replicate, length-replicate}
 use lib.Dec.{eqb, ltb}
 use borrow.Author.Tests.{eqb-true, eqb-false, ltb-false, not-false}
-use Rattle.repr.specs.Sizes.{record_limit}
+use Rattle.lr1_base.specs.repr.Sizes.{record_limit}
 use Rattle.table.specs.Words.{word_at, records, state_area, production_area, loose}
 use Rattle.table.specs.Refusals.{row1, row2}
 use Rattle.table.proofs.Chains.{or-false}

@@ -7,11 +7,11 @@ use native.Mathlib.Omega.{arith}
 use native.Mathlib.Decide.{ℕ_discrete}
 use lib.ListN.{length, get_or, set, length-set}
 use lib.Seq.{get_or-set_same, get_or-set_other}
-use Rattle.repr.specs.Sizes.{index_limit}
+use Rattle.lr1_base.specs.repr.Sizes.{index_limit}
 use Rattle.table.specs.Words.{Area, word_at, records, production_area, loose_records, production_records, names, chain}
 use Rattle.table.specs.Decoded.{production_chain, symbol_chain}
-use Rattle.repr.specs.Lists.{mem}
-use Rattle.repr.proofs.Lists.{mem-cons_here, mem-cons_there}
+use Rattle.lr1_base.specs.repr.Lists.{mem}
+use Rattle.lr1_base.proofs.repr.Lists.{mem-cons_here, mem-cons_there}
 use Rattle.table.proofs.Chains.{named, chain-step, chain_member}
 use Rattle.table_check.specs.Marks.{Lengths}
 use Rattle.table_check.specs.Known.{AreasOf, area, bump}

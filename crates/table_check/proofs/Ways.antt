@@ -7,8 +7,8 @@ use native.Mathlib.Omega.{arith}
 use lib.ListN.{length, get_or}
 use lib.Dec.{eqb}
 use borrow.Author.Tests.{eq-eqb, ne_eqb, lt-ltb, le-ltb}
-use Rattle.repr.specs.Lists.{below, occurrences, joined}
-use Rattle.repr.proofs.Lists.{cases}
+use Rattle.lr1_base.specs.repr.Lists.{below, occurrences, joined}
+use Rattle.lr1_base.proofs.repr.Lists.{cases}
 use Rattle.table.specs.Words.{word_at, productions, production_area, loose_records, production_records, names, against}
 use Rattle.table.specs.Decoded.{production_chain, symbol_chain}
 use Rattle.table_check.specs.Rows.{number_of_row}

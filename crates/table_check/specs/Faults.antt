@@ -1,9 +1,9 @@
 -- The lowest row against which one record offends, as the check finds it: by what the record is. Assumes nothing: these are definitions.
 use Rattle.std.specs.Prelude.{ℕ, ◌-◌, min, ◌≤◌, ◌<◌, ◌≡◌, Bool, true, false, ◌&&◌, ◌||◌, not, List, [], ◌∷◌, length, eqb, ltb, leb}
 use Rattle.std.proofs.Math.Option.{none, some}
-use Rattle.repr.specs.Sizes.{index_limit}
-use Rattle.repr.specs.Lists.{below, occurrences, first?, joined}
-use Rattle.repr.specs.Listed.{symbol_is_fit}
+use Rattle.lr1_base.specs.repr.Sizes.{index_limit}
+use Rattle.lr1_base.specs.repr.Lists.{below, occurrences, first?, joined}
+use Rattle.lr1_base.specs.repr.Listed.{symbol_is_fit}
 use Rattle.table.specs.Checked.{Checked, Accepted, Refused}
 use Rattle.table.specs.Words.{word_at, nonterminals, terminals, states, productions, production_area, loose_records, production_records, against}
 use Rattle.table.specs.Decoded.{or_zero, production_chain, symbol_chain}

@@ -1,6 +1,6 @@
 -- What the check knows of a table that rows 1 and 2 let through, and what it has gathered. Assumes nothing: these are definitions.
 use Rattle.std.specs.Prelude.{ℕ, ◌+◌, ◌*◌, ◌-◌, min, ◌≤◌, ◌≡◌, List, [], ◌∷◌, length, get_or, set}
-use Rattle.repr.specs.Sizes.{record_limit}
+use Rattle.lr1_base.specs.repr.Sizes.{record_limit}
 use Rattle.table.specs.Words.{word_at, records, state_area, production_area, loose, Area}
 use Rattle.table_check.specs.Marks.{Held, Lengths}
 use Rattle.table_check.specs.declared.areas.Areas.{Areas}

@@ -4,3 +4,9 @@ pub mod Known
 pub mod Faults
 pub mod Rows
 pub mod Offences
+pub use Rattle.lr1_base.specs.bits
+pub use Rattle.lr1_base.specs.repr
+pub use Rattle.table.specs.Checked
+pub use Rattle.table.specs.Decoded
+pub use Rattle.table.specs.Refusals
+pub use Rattle.table.specs.Words

@@ -1,7 +1,7 @@
 -- What the parts of the check hold while it works. Assumes nothing: these are definitions.
 use Rattle.std.specs.Prelude.{ℕ, ◌+◌, min, ◌<◌, false, ◌≡◌, List, length, get_or}
-use Rattle.repr.specs.Sizes.{index_limit}
-use Rattle.repr.specs.Lists.{below, occurrences, joined}
+use Rattle.lr1_base.specs.repr.Sizes.{index_limit}
+use Rattle.lr1_base.specs.repr.Lists.{below, occurrences, joined}
 use Rattle.table.specs.Words.{nonterminals, productions, production_area}
 use Rattle.table.specs.Decoded.{production_chain, symbol_chain}
 use Rattle.table.specs.Refusals.{row1, row2}

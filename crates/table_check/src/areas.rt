@@ -5,7 +5,7 @@ ghost use Rattle.table.specs.Words.{word_at, production_records, loose_records, 
 ghost use Rattle.table_check.specs.Marks.{Sized};
 ghost use Rattle.table_check.specs.Known.{AreasOf, Known, area};
 
-use repr::{NonterminalString, ProductionIndex, StateIndex, Symbol};
+use lr1_base::repr::{NonterminalString, ProductionIndex, StateIndex, Symbol};
 use table::{Counts, RECORD_WORDS, RECORDS, word};
 
 // The counts of record 0, the number of records, and where the areas begin.

@@ -1,12 +1,12 @@
 // How many symbols each production has, as far as seventeen: one too many.
 ghost use Rattle.std.specs.Prelude.{◌≡◌, ◌<◌, min, length};
-ghost use Rattle.repr.specs.Sizes.{index_limit};
+ghost use Rattle.lr1_base.specs.repr.Sizes.{index_limit};
 ghost use Rattle.table.specs.Words.{word_at};
 ghost use Rattle.table.specs.Decoded.{symbol_chain};
 ghost use Rattle.table_check.specs.Marks.{Lengths};
 
 use crate::areas::Surveyed;
-use repr::ProductionIndex;
+use lr1_base::repr::ProductionIndex;
 
 // The symbols of production p. A shared chain costs at most seventeen steps a production.
 fn symbol_count(s: Surveyed, p: usize) -> usize

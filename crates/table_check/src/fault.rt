@@ -5,7 +5,7 @@ ghost use Rattle.table_check.specs.Faults.{fault_at, index_bad, fault_of_nonterm
 
 use crate::areas::Record;
 use crate::loose::Roles;
-use repr::ProductionIndex;
+use lr1_base::repr::ProductionIndex;
 
 // The rows of document 01's table that speak of one record, in their order.
 #[derive(Clone, Copy, PartialEq, Eq, PartialOrd, Ord)]

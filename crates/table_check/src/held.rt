@@ -6,7 +6,7 @@ ghost use Rattle.table_check.specs.Marks.{Held};
 ghost use Rattle.table_check.specs.Known.{bump};
 
 use crate::areas::Surveyed;
-use repr::ProductionIndex;
+use lr1_base::repr::ProductionIndex;
 
 // One more for each production in the chain of nonterminal n, as far as two.
 fn hold_chain(s: Surveyed, n: usize, held: &mut [u8; ProductionIndex::LIMIT])

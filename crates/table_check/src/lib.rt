@@ -19,8 +19,8 @@ ghost use Rattle.table_check.specs.Marks.{Sized};
 
 use areas::{Gathered, Surveyed};
 pub use loose::Roles;
+use lr1_base::repr::{ProductionIndex, Refusal};
 use mark::{ALL, FEW, Marks};
-use repr::{ProductionIndex, Refusal};
 use table::{AcceptedTable, RECORD_WORDS};
 
 // What is gathered of the productions, in bytes that are lent for it.

@@ -3,7 +3,7 @@ ghost use Rattle.std.specs.Prelude.{◌&&◌, ◌||◌, ◌≡◌, ◌<◌};
 ghost use Rattle.table_check.specs.Faults.{symbol_bad, item_bad, range_bad, spare_bad};
 
 use crate::areas::Record;
-use repr::symbol_fits;
+use lr1_base::repr::symbol_fits;
 
 // The sorts of chains that reach a loose record: a set, since chains may share it.
 #[derive(Clone, Copy)]

@@ -1,13 +1,13 @@
 // Marks the records that chains of loose records reach: the heads first, then the next of each marked record, record by record. A next index is larger than its
 // record's number, so one pass over the records in order follows every chain, however many heads share it.
 ghost use Rattle.std.specs.Prelude.{true, List, ◌≡◌, ℕ, ◌+◌, ◌*◌, ◌/◌, ◌≤◌, ◌<◌, length};
-ghost use Rattle.bits.specs.Bits.{bit_at};
+ghost use Rattle.lr1_base.specs.bits.Bits.{bit_at};
 ghost use Rattle.table.specs.Words.{word_at, records, loose, loose_records, names};
 ghost use Rattle.table_check.specs.Passed.{Blank, Passed, Reaching};
 
 use crate::areas::Surveyed;
 use crate::loose::Roles;
-use bits::{is_set, put};
+use lr1_base::bits::{is_set, put};
 use table::{RECORDS, word};
 
 // Words of marks for 512 records, and for all that a table can have.

@@ -11,7 +11,7 @@ ghost use Rattle.table_check.specs.Faults.{fault_at, Best};
 use crate::areas::{Gathered, Record};
 use crate::fault::Row;
 use crate::mark::Marks;
-use repr::Refusal;
+use lr1_base::repr::Refusal;
 
 // A row, and a record that meets it.
 #[derive(Clone, Copy)]
@@ -21,7 +21,7 @@ pub struct Offence {
 }
 
 impl Offence {
-    ghost use Rattle.repr.specs.Reply.{number_of as refusal_number, place_of as refusal_place};
+    ghost use Rattle.lr1_base.specs.repr.Reply.{number_of as refusal_number, place_of as refusal_place};
 
     // A method and no `From`: it asks that the place has 16 bits.
     fn refusal(self) -> Refusal

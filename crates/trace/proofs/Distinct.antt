@@ -2,12 +2,12 @@
 use Rattle.std.proofs.Common.{◌≡◌, ◌+◌, ◌*◌, ◌/◌, ◌%◌, ◌<◌, Bool, true, List, [], ◌∷◌, ap, ◌∙◌, arith}
 use mathlib.Core.List.Memᴰ
 use mathlib.Core.List.{Memᴰ}
-use Rattle.repr.specs.Sizes.{index_limit, item_limit}
-use Rattle.repr.specs.Lists.{keep}
-use Rattle.repr.specs.Meaning.{Item, Table, no_production, TableFits, ItemFits, ProductionFits}
-use Rattle.repr.proofs.Lists.{cases, keep-nil, keep-yes, keep_no}
-use Rattle.repr.proofs.Tests.{All_at}
-use Rattle.trace.specs.Shifting.{item_of}
+use Rattle.lr1_base.specs.repr.Sizes.{index_limit, item_limit}
+use Rattle.lr1_base.specs.repr.Lists.{keep}
+use Rattle.lr1_base.specs.repr.Meaning.{Item, Table, no_production, TableFits, ItemFits, ProductionFits}
+use Rattle.lr1_base.proofs.repr.Lists.{cases, keep-nil, keep-yes, keep_no}
+use Rattle.lr1_base.proofs.repr.Tests.{All_at}
+use Rattle.lr1_base.specs.item.Places.{item_at_place}
 
 pub kept_member : (t : Item → Bool) (j : Item) (is : List Item) → Memᴰ j (keep t is) → Memᴰ j is × (t j ≡ true)
 kept_member t j [] m = absurd (Memᴰ.not-nil (rw (keep-nil t) at m))
@@ -23,8 +23,8 @@ kept_member t j (i ∷ is) m =
 
 -- an item's code
 
-pub code-item : (i : Item) → i.index < index_limit → item_of (i.production * index_limit + i.index) ≡ i
-unfolding item_of
+pub code-item : (i : Item) → i.index < index_limit → item_at_place (i.production * index_limit + i.index) ≡ i
+unfolding item_at_place
 code-item i h =
     let p : (i.production * index_limit + i.index) / index_limit ≡ i.production = omega arith in
     let q : (i.production * index_limit + i.index) % index_limit ≡ i.index = omega arith in

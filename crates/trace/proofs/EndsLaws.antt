@@ -2,43 +2,26 @@
 use Rattle.std.proofs.Common.{◌≡◌, ℕ, zero, suc, ◌+◌, ◌*◌, ◌/◌, ◌<◌, ◌≤◌, Bool, true, false, ltb, leb, List, [], ◌∷◌, length, get_or, take, drop, replicate, sym, refl, ap, ◌∙◌, arith, ltb-true, lt-ltb, leb-true}
 use native.Mathlib.Decide.{dec_lt}
 use lib.ListN.{length-replicate}
-use Rattle.repr.specs.Sizes.{nonterminal_limit, terminal_limit, index_limit, item_flags}
-use Rattle.repr.specs.Meaning.{Symbol, Item, Production, no_production, Table, TableFits, ProductionFits, SymbolFits, production_at, All, ItemFits}
-use Rattle.repr.specs.Listed.{symbol_of_kind, listed, symbol_is_fit, list_is_fit}
-use Rattle.repr.specs.Packed.{Packed, symbol_words, production_in, productions_in}
-use Rattle.repr.proofs.Lists.{length-map-below, get_d_map-below}
-use Rattle.repr.proofs.Tests.{All_at}
-use Rattle.repr.proofs.Parts.{symbols_long}
-use Rattle.bits.specs.Bits.{bit_at, bit_put}
-use Rattle.bits.proofs.Laws.{put-length, put_here, put_other, zeros_none}
-use Rattle.lr1_core.specs.Items.{symbol_sets}
+use Rattle.lr1_base.specs.repr.Sizes.{nonterminal_limit, terminal_limit, index_limit, item_flags}
+use Rattle.lr1_base.specs.repr.Meaning.{Symbol, Item, Production, no_production, Table, TableFits, ProductionFits, SymbolFits, production_at, All, ItemFits}
+use Rattle.lr1_base.specs.repr.Listed.{symbol_of_kind, listed, symbol_is_fit, list_is_fit}
+use Rattle.lr1_base.specs.repr.Packed.{Packed, symbol_words, production_in, productions_in}
+use Rattle.lr1_base.proofs.repr.Lists.{length-map-below, get_d_map-below}
+use Rattle.lr1_base.proofs.repr.Tests.{All_at}
+use Rattle.lr1_base.proofs.repr.Parts.{symbols_long, fits-drop, fits-take}
+use Rattle.lr1_base.specs.bits.Bits.{bit_at, bit_put}
+use Rattle.lr1_base.proofs.bits.Laws.{put-length, put_here, put_other, zeros_none}
+use Rattle.lr1_base.specs.item.Items.{symbol_sets}
 use Rattle.first.specs.First.{first0, sets_of_first, FIRST, nullable}
 use Rattle.first.specs.declared.Answer.{Answer}
 use Rattle.state_graph.specs.Walk.{walked_back, traced_back}
-use Rattle.state_graph.proofs.Exact.{and_both}
 use Rattle.trace_graph.specs.Fits.{item_is_fit}
 use Rattle.trace.specs.Traced.{symbols_of, prefix_of, suffix_of}
 use Rattle.trace.specs.Ends.{EndsTo, Ends}
 use Rattle.trace.specs.Edges.{item_at}
+use Rattle.lr1_base.proofs.laws.Bools.{and-true}
 
 -- lists of symbols in words that fit, in parts
-
-fits-drop : (n t k : ℕ) (ws : List ℕ) → list_is_fit n t ws ≡ true → list_is_fit n t (drop (2 * k) ws) ≡ true
-unfolding list_is_fit
-fits-drop n t zero ws e = e
-fits-drop n t (suc k) [] e = let q : 2 * suc k ≡ suc (suc (2 * k)) = omega arith in rw q refl
-fits-drop n t (suc k) (a ∷ []) e = let z : ◌≡◌ {A = ℕ} 0 1 = cc in absurd (omega arith)
-fits-drop n t (suc k) (a ∷ x ∷ ws) e = let q : 2 * suc k ≡ suc (suc (2 * k)) = omega arith in rw q (fits-drop n t k ws (and_both (symbol_is_fit n t a x) (list_is_fit n t ws) e).1)
-
-fits-take : (n t k : ℕ) (ws : List ℕ) → list_is_fit n t ws ≡ true → list_is_fit n t (take (2 * k) ws) ≡ true
-unfolding list_is_fit
-fits-take n t zero ws e = refl
-fits-take n t (suc k) [] e = let q : 2 * suc k ≡ suc (suc (2 * k)) = omega arith in rw q refl
-fits-take n t (suc k) (a ∷ []) e = let z : ◌≡◌ {A = ℕ} 0 1 = cc in absurd (omega arith)
-fits-take n t (suc k) (a ∷ x ∷ ws) e =
-    let q : 2 * suc k ≡ suc (suc (2 * k)) = omega arith in
-    let r = and_both (symbol_is_fit n t a x) (list_is_fit n t ws) e in
-    rw q (rw r.0 (fits-take n t k ws r.1))
 
 -- kinds of 0 and 1, and numbers in the table's range
 symbol_tight : (T : Table) (k x : ℕ) → symbol_is_fit nonterminal_limit terminal_limit k x ≡ true → SymbolFits T (symbol_of_kind k x) → symbol_is_fit (length T.nonterminals) T.terminals k x ≡ true
@@ -52,7 +35,7 @@ unfolding list_is_fit listed All
 fits_tight T [] e h = refl
 fits_tight T (a ∷ []) e h = e
 fits_tight T (a ∷ x ∷ ws) e h =
-    let r = and_both (symbol_is_fit nonterminal_limit terminal_limit a x) (list_is_fit nonterminal_limit terminal_limit ws) e in
+    let r = and-true (symbol_is_fit nonterminal_limit terminal_limit a x) (list_is_fit nonterminal_limit terminal_limit ws) e in
     rw (symbol_tight T a x r.0 h.0) (fits_tight T ws r.1 h.1)
 
 -- an item's words
@@ -108,7 +91,7 @@ module _ (g : List ℕ) (n p : ℕ) (P : Packed g n) (h : p < n) where
 pub fits-words : (g : List ℕ) (n p i : ℕ) → item_is_fit (productions_in g n) p i ≡ true → (p < n) × (i ≤ length (listed (symbol_words g p)))
 unfolding item_is_fit productions_in production_in
 fits-words g n p i e =
-    let r = and_both (ltb p (length (productions_in g n))) (leb i (length (get_or (productions_in g n) p no_production).symbols)) e in
+    let r = and-true (ltb p (length (productions_in g n))) (leb i (length (get_or (productions_in g n) p no_production).symbols)) e in
     let a = ltb-true p (length (productions_in g n)) r.0 in
     let b = length-map-below (production_in g) n in
     let h : p < n = omega arith in

@@ -4,10 +4,10 @@ use Rattle.std.proofs.Common.{◌≡◌, ℕ, zero, suc, ◌<◌, ◌≤◌, tru
 use mathlib.Core.List.{Memᴰ}
 use native.Mathlib.Decide.{dec_lt}
 use lib.ListN.{get_or-eq_default}
-use Rattle.repr.specs.Lists.{mem}
-use Rattle.repr.specs.Meaning.{Symbol, Item, no_production, Table, state_at, production_at, TableFits, ProductionFits}
-use Rattle.repr.proofs.Lists.{cases, mem-cons_here, mem-cons_there}
-use Rattle.repr.proofs.Tests.{All_at}
+use Rattle.lr1_base.specs.repr.Lists.{mem}
+use Rattle.lr1_base.specs.repr.Meaning.{Symbol, Item, no_production, Table, state_at, production_at, TableFits, ProductionFits}
+use Rattle.lr1_base.proofs.repr.Lists.{cases, mem-cons_here, mem-cons_there}
+use Rattle.lr1_base.proofs.repr.Tests.{All_at}
 use Rattle.first.specs.First.{nullable}
 use Rattle.state_graph.specs.Walk.{walked_back, traced_back}
 use Rattle.state_graph.proofs.Exact.{walk_inside, mem_one, predecessors-inside}

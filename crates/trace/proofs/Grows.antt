@@ -2,10 +2,10 @@
 -- edges never falls, and the pairs that are left never rise. The clauses of both traces (specs/Shift, specs/Reduce) stand here as laws. Assumes nothing.
 use Rattle.std.proofs.Common.{◌≡◌, ℕ, zero, suc, ◌<◌, ◌≤◌, Bool, true, false, ltb, List, [], ◌∷◌, ◌++◌, length, sym, refl, ap, ◌∙◌, append_assoc, append-nil, arith, length-append}
 use mathlib.Core.Bool.{or-true}
-use Rattle.repr.specs.Lists.{mem, some?}
-use Rattle.repr.specs.Meaning.{Item, Table, state_at}
-use Rattle.repr.proofs.Lists.{cases, mem-append}
-use Rattle.repr.proofs.Tests.{some?-append}
+use Rattle.lr1_base.specs.repr.Lists.{mem, some?}
+use Rattle.lr1_base.specs.repr.Meaning.{Item, Table, state_at}
+use Rattle.lr1_base.proofs.repr.Lists.{cases, mem-append}
+use Rattle.lr1_base.proofs.repr.Tests.{some?-append}
 use Rattle.first.specs.First.{nullable}
 use Rattle.state_graph.specs.Walk.{traced_back}
 use Rattle.trace_graph.specs.Graph.{Node, at_nonterminal, at_item, TraceEdge}

@@ -1,10 +1,10 @@
 -- The traces of table B of document 01, computed from their definitions: the shift of + and both reductions in state 3, and the shift of n in state 2. Assumes nothing.
 use Rattle.std.proofs.Common.{◌≡◌, ℕ, true, List, [], ◌∷◌, map, refl}
-use Rattle.slices.specs.Same.{same_words}
-use Rattle.repr.specs.Lists.{up_from, below, mem, keep, some?, every?, joined}
-use Rattle.repr.specs.Meaning.{nonterminal, terminal, is_same_symbol, Item, Table}
-use Rattle.lookahead.specs.Tokens.{has, single, union, without}
-use Rattle.lr1_core.specs.Items.{first, symbol_sets, is_nonterminal, shifts_nonterminal}
+use Rattle.lr1_base.specs.words.Same.{same_words}
+use Rattle.lr1_base.specs.repr.Lists.{up_from, below, mem, keep, some?, every?, joined}
+use Rattle.lr1_base.specs.repr.Meaning.{nonterminal, terminal, is_same_symbol, Item, Table}
+use Rattle.lr1_base.specs.lookahead.Tokens.{has, single, union, without}
+use Rattle.lr1_base.specs.item.Items.{first, symbol_sets, is_nonterminal, shifts_nonterminal}
 use Rattle.first.specs.First.{join, first_of, marked_at_end, unmarked, first0, grown, round, settle, sets_of_first, FIRST, nullable}
 use Rattle.state_graph.specs.Walk.{leads, predecessors, walked_back, traced_back}
 use Rattle.trace_graph.specs.Graph.{Node, at_nonterminal, at_item, same_item, is_same_node, TraceEdge, label_of, same_symbols, same_cursor, same_sets, is_same_edge, add, is_node_of}

@@ -3,70 +3,22 @@
 use Rattle.std.proofs.Common.{◌≡◌, Bool, true, false, not, ◌&&◌, ◌||◌, eqb, List, [], ◌∷◌, ◌++◌, sym, refl, ap, ◌∙◌, true≢false, append-nil, eq-eqb, eqb-true}
 use mathlib.Core.Bool.{or-false, or-true}
 use mathlib.Core.Option.{Option, none, some}
-use Rattle.repr.specs.Lists.{some?}
-use Rattle.repr.specs.Meaning.{Symbol, is_same_symbol, Item, Production, All}
-use Rattle.repr.proofs.Lists.{cases, clash}
-use Rattle.repr.proofs.Tests.{some?-nil, some?-yes, some?_no, some?-cons, some?-append}
-use Rattle.repr.proofs.SameSymbol.{same_equal, same_refl}
-use Rattle.lr1_core.specs.Items.{Sets}
-use Rattle.state_graph.proofs.Exact.{both_ways, and_both}
+use Rattle.lr1_base.specs.repr.Lists.{some?}
+use Rattle.lr1_base.specs.repr.Meaning.{Symbol, is_same_symbol, Item, Production, All}
+use Rattle.lr1_base.proofs.repr.Lists.{cases, clash}
+use Rattle.lr1_base.proofs.repr.Tests.{some?-nil, some?-yes, some?_no, some?-cons, some?-append}
+use Rattle.lr1_base.proofs.repr.SameSymbol.{same_equal, same_refl}
+use Rattle.lr1_base.specs.item.Items.{Sets}
 use Rattle.trace_graph.specs.Graph.{Node, at_nonterminal, at_item, same_item, is_same_node, TraceEdge, label_of, same_symbols, same_cursor, same_sets, is_same_edge, add}
 use Rattle.trace_graph.specs.Fits.{once}
-use Rattle.trace_graph.proofs.Labels.{node_equal, cursor_equal}
+use Rattle.trace_graph.proofs.Labels.{node_equal, cursor_equal, node_refl, symbols_equal, symbols_refl, cursor_refl, sets_equal, sets_refl}
+use Rattle.lr1_base.proofs.laws.Bools.{agree, and-true}
 
 -- items, nodes and labels that are the same are equal
-
-pub item_equal : (a b : Item) → same_item a b ≡ true → a ≡ b
-unfolding same_item
-item_equal a b e =
-    let r = and_both (eqb a.production b.production) (eqb a.index b.index) e in
-    let p = eqb-true a.production b.production r.0 in
-    let q = eqb-true a.index b.index r.1 in
-    λ j. record { production = p j; index = q j }
 
 pub item_same : (a : Item) → same_item a a ≡ true
 unfolding same_item
 item_same a = rw (eq-eqb a.production a.production refl, eq-eqb a.index a.index refl)
-
-pub node_same : (v : Node) → is_same_node v v ≡ true
-unfolding is_same_node
-node_same (at_nonterminal n) = eq-eqb n n refl
-node_same (at_item a) = item_same a
-
-symbols_equal : (xs ys : List Symbol) → same_symbols xs ys ≡ true → xs ≡ ys
-unfolding same_symbols
-symbols_equal [] [] e = refl
-symbols_equal [] (y ∷ ys) e = absurd (true≢false (sym e))
-symbols_equal (x ∷ xs) [] e = absurd (true≢false (sym e))
-symbols_equal (x ∷ xs) (y ∷ ys) e =
-    let r = and_both (is_same_symbol x y) (same_symbols xs ys) e in
-    let p = same_equal x y r.0 in
-    let q = symbols_equal xs ys r.1 in
-    λ j. p j ∷ q j
-
-symbols_same : (xs : List Symbol) → same_symbols xs xs ≡ true
-unfolding same_symbols
-symbols_same [] = refl
-symbols_same (x ∷ xs) = let r = symbols_same xs in rw (same_refl x) r
-
-cursor_same : (x : Option Symbol) → same_cursor x x ≡ true
-unfolding same_cursor
-cursor_same none = refl
-cursor_same (some x) = same_refl x
-
-pub sets_equal : (a b : Sets) → same_sets a b ≡ true → a ≡ b
-unfolding same_sets
-sets_equal a b e =
-    let r = and_both (same_symbols a.prefix b.prefix) (same_cursor a.cursor b.cursor && same_symbols a.suffix b.suffix) e in
-    let t = and_both (same_cursor a.cursor b.cursor) (same_symbols a.suffix b.suffix) r.1 in
-    let p = symbols_equal a.prefix b.prefix r.0 in
-    let q = cursor_equal a.cursor b.cursor t.0 in
-    let s = symbols_equal a.suffix b.suffix t.1 in
-    λ j. record { prefix = p j; cursor = q j; suffix = s j }
-
-pub sets_same : (a : Sets) → same_sets a a ≡ true
-unfolding same_sets
-sets_same a = rw (symbols_same a.prefix, cursor_same a.cursor) (symbols_same a.suffix)
 
 module _ (ps : List Production) where
   -- two edges are the same exactly if their ends are equal and their labels' symbols are
@@ -74,19 +26,19 @@ module _ (ps : List Production) where
   pub edge_equal : (e f : TraceEdge) → is_same_edge ps e f ≡ true → (e.source ≡ f.source) × (e.target ≡ f.target) × (label_of ps e.label ≡ label_of ps f.label)
   unfolding is_same_edge
   edge_equal e f h =
-      let r = and_both (is_same_node e.source f.source) (is_same_node e.target f.target && same_sets (label_of ps e.label) (label_of ps f.label)) h in
-      let t = and_both (is_same_node e.target f.target) (same_sets (label_of ps e.label) (label_of ps f.label)) r.1 in
+      let r = and-true (is_same_node e.source f.source) (is_same_node e.target f.target && same_sets (label_of ps e.label) (label_of ps f.label)) h in
+      let t = and-true (is_same_node e.target f.target) (same_sets (label_of ps e.label) (label_of ps f.label)) r.1 in
       (node_equal e.source f.source r.0, node_equal e.target f.target t.0, sets_equal (label_of ps e.label) (label_of ps f.label) t.1)
 
   pub equal_edge : (e f : TraceEdge) → e.source ≡ f.source → e.target ≡ f.target → label_of ps e.label ≡ label_of ps f.label → is_same_edge ps e f ≡ true
   unfolding is_same_edge
-  equal_edge e f p q r = rw (p, q, r) (rw (node_same f.source, node_same f.target) (sets_same (label_of ps f.label)))
+  equal_edge e f p q r = rw (p, q, r) (rw (node_refl f.source, node_refl f.target) (sets_refl (label_of ps f.label)))
 
   pub edge_same : (e : TraceEdge) → is_same_edge ps e e ≡ true
   edge_same e = equal_edge e e refl refl refl
 
   pub edge_flip : (e f : TraceEdge) → is_same_edge ps e f ≡ is_same_edge ps f e
-  edge_flip e f = both_ways (is_same_edge ps e f) (is_same_edge ps f e) (turned e f) (turned f e)
+  edge_flip e f = agree (is_same_edge ps e f) (is_same_edge ps f e) (turned e f) (turned f e)
     where
       turned : (a b : TraceEdge) → is_same_edge ps a b ≡ true → is_same_edge ps b a ≡ true
       turned a b h = let r = edge_equal a b h in equal_edge b a (sym r.0) (sym r.1) (sym r.2)
@@ -153,7 +105,7 @@ module _ (ps : List Production) where
   unfolding once
   once-behind e [] h k = rw (some?-nil (is_same_edge ps e))
   once-behind e (x ∷ xs) h k =
-      let r = and_both (not (some? (is_same_edge ps x) xs)) (once ps xs) k in
+      let r = and-true (not (some? (is_same_edge ps x) xs)) (once ps xs) k in
       let a = borrow.Author.Tests.not-true (some? (is_same_edge ps x) xs) r.0 in
       cases (is_same_edge ps e x)
       (λ b. clash (some? (is_same_edge ps e) (x ∷ xs)) (some?-yes (is_same_edge ps e) x xs b) h)

@@ -1,10 +1,10 @@
 -- A state whose items lead to nothing new (specs/Passed): its epsilon step adds no edge, and the edges of a shift trace are the same without it (`left_out`). Assumes nothing.
 use Rattle.std.proofs.Common.{◌≡◌, ℕ, zero, suc, ◌<◌, Bool, true, false, eqb, ltb, List, [], ◌∷◌, length, sym, refl, ap, ◌∙◌, arith, ltb-false, ltb-true, ne_eqb}
 use mathlib.Core.List.{Memᴰ}
-use Rattle.repr.specs.Lists.{mem, some?}
-use Rattle.repr.specs.Meaning.{Item, Table, state_at, TableFits, All}
-use Rattle.repr.proofs.Lists.{cases, clash, mem-yes, mem_no}
-use Rattle.repr.proofs.Tests.{All_member}
+use Rattle.lr1_base.specs.repr.Lists.{mem, some?}
+use Rattle.lr1_base.specs.repr.Meaning.{Item, Table, state_at, TableFits, All}
+use Rattle.lr1_base.proofs.repr.Lists.{cases, clash, mem-yes, mem_no}
+use Rattle.lr1_base.proofs.repr.Tests.{All_member}
 use Rattle.trace_graph.specs.Graph.{Node, at_nonterminal, at_item, TraceEdge, is_same_edge, add}
 use Rattle.trace.specs.Traced.{Trace, pair, enter, add_to, owner_of, can_shift, in_turn, pairs}
 use Rattle.trace.specs.Shift.{epsilon_item, epsilon}

@@ -1,10 +1,10 @@
 -- A repeated item of a state adds nothing (acceptance R7): the turn of a trace over a state's items is the turn over those that can shift the nonterminal, each once (`shifting` of
 -- specs/Shifting). An item that cannot shift it changes nothing; an item met before changes nothing, since its edges are there and the pairs that it leads to are entered. Assumes nothing.
 use Rattle.std.proofs.Common.{◌≡◌, ℕ, zero, suc, Bool, true, false, eqb, ltb, List, [], ◌∷◌, sym, refl, ap, ◌∙◌, arith, eqb-true}
-use Rattle.repr.specs.Lists.{mem, some?, keep}
-use Rattle.repr.specs.Meaning.{Item, Table, state_at}
-use Rattle.repr.proofs.Lists.{cases, clash, mem-nil, mem_no, mem-cons_here, mem-cons_there, keep-nil, keep-yes, keep_no}
-use Rattle.repr.proofs.Tests.{some?-nil, some?_no}
+use Rattle.lr1_base.specs.repr.Lists.{mem, some?, keep}
+use Rattle.lr1_base.specs.repr.Meaning.{Item, Table, state_at}
+use Rattle.lr1_base.proofs.repr.Lists.{cases, clash, mem-nil, mem_no, mem-cons_here, mem-cons_there, keep-nil, keep-yes, keep_no}
+use Rattle.lr1_base.proofs.repr.Tests.{some?-nil, some?_no}
 use Rattle.first.specs.First.{nullable}
 use Rattle.state_graph.specs.Walk.{traced_back}
 use Rattle.trace_graph.specs.Graph.{Node, at_nonterminal, at_item, same_item, is_same_edge}
@@ -13,8 +13,9 @@ use Rattle.trace.specs.Shifting.{distinct_from, distinct, shifting}
 use Rattle.trace.specs.Shift.{epsilon_item, epsilon}
 use Rattle.trace.specs.Reduce.{reduce_state_item, item_of_reduce, state_of_reduce}
 use Rattle.trace.specs.Met.{ItemMet}
-use Rattle.trace.proofs.Once.{item_equal, add_there, add-has}
+use Rattle.trace.proofs.Once.{add_there, add-has}
 use Rattle.trace.proofs.Grows.{Grows, Adds, grows_seen, grows_some, turn_nil, turn_cons, turn_grows, epsilon_cannot, epsilon_past, epsilon_beginning, epsilon-zero, epsilon-entered, epsilon_new, epsilon_item_grows, epsilon_grows, reduce_cannot, reduce_nullable, reduce_ends, reduce_item_is, reduce_zero, reduce_entered, reduce_new, reduce_item_grows, reduce_state_item_grows, reduce_grows}
+use Rattle.trace_graph.proofs.Labels.{item_equal}
 
 -- the clauses of `distinct_from`
 

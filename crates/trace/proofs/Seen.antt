@@ -1,8 +1,8 @@
 -- Laws of the measure of tracing (specs/Seen): a pair that is entered for the first time takes one from it; pairs in range have numbers of their own, below 4,096. Assumes nothing.
 use Rattle.std.proofs.Common.{◌≡◌, ℕ, zero, suc, ◌<◌, ◌≤◌, true, false, eqb, List, [], ◌∷◌, ◌++◌, sym, refl, ap, ◌∙◌, arith, eq-eqb, ne_eqb, eqb-true}
 use borrow.Author.Tests.{eqb-false}
-use Rattle.repr.specs.Lists.{mem}
-use Rattle.repr.proofs.Lists.{cases, mem-yes, mem_no, mem-cons_there}
+use Rattle.lr1_base.specs.repr.Lists.{mem}
+use Rattle.lr1_base.proofs.repr.Lists.{cases, mem-yes, mem_no, mem-cons_there}
 use Rattle.trace.specs.Traced.{pair}
 use Rattle.trace.specs.Seen.{free, unentered}
 

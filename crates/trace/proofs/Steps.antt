@@ -1,9 +1,9 @@
 -- The steps of both traces, as code takes them: what each adds, and that no step takes an edge away. Assumes nothing.
 use Rattle.std.proofs.Common.{◌≡◌, ℕ, ◌<◌, ◌≤◌, List, length, get_or, ap, arith, le-ltb, lt-ltb}
-use Rattle.repr.specs.Sizes.{production_place, edge_limit}
-use Rattle.repr.specs.Meaning.{Item, Production, no_production, Table}
-use Rattle.repr.specs.Packed.{production_in, productions_in}
-use Rattle.repr.proofs.Lists.{get_d_map-below}
+use Rattle.lr1_base.specs.repr.Sizes.{production_place, edge_limit}
+use Rattle.lr1_base.specs.repr.Meaning.{Item, Production, no_production, Table}
+use Rattle.lr1_base.specs.repr.Packed.{production_in, productions_in}
+use Rattle.lr1_base.proofs.repr.Lists.{get_d_map-below}
 use Rattle.trace_graph.specs.Graph.{at_nonterminal, at_item}
 use Rattle.trace.specs.Traced.{Trace, owner_of, in_turn, pairs}
 use Rattle.trace.specs.Shift.{epsilon_item, epsilon}

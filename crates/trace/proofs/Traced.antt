@@ -4,13 +4,12 @@ use mathlib.Core.List.Memᴰ
 use mathlib.Core.List.{Memᴰ}
 use native.Mathlib.Decide.{dec_lt}
 use lib.ListN.{get_or-eq_default}
-use Rattle.repr.specs.Lists.{mem, some?}
-use Rattle.repr.specs.Meaning.{Item, State, no_state, Table, state_at, production_at, All, TableFits, StateFits, ItemFits}
-use Rattle.repr.proofs.Lists.{cases, clash}
-use Rattle.repr.proofs.Tests.{All_at, some?-nil, some?-yes, some?_no}
+use Rattle.lr1_base.specs.repr.Lists.{mem, some?}
+use Rattle.lr1_base.specs.repr.Meaning.{Item, State, no_state, Table, state_at, production_at, All, TableFits, StateFits, ItemFits}
+use Rattle.lr1_base.proofs.repr.Lists.{cases, clash}
+use Rattle.lr1_base.proofs.repr.Tests.{All_at, some?-nil, some?-yes, some?_no}
 use Rattle.first.specs.First.{nullable}
 use Rattle.state_graph.specs.Walk.{traced_back}
-use Rattle.state_graph.proofs.Exact.{and_both}
 use Rattle.trace_graph.specs.Graph.{Node, at_nonterminal, at_item, TraceEdge, is_same_node, is_same_edge, add, is_node_of}
 use Rattle.trace_graph.specs.Fits.{item_is_fit, once}
 use Rattle.trace_graph.specs.Index.{InRange}
@@ -19,9 +18,11 @@ use Rattle.trace.specs.Traced.{Trace, untraced, pair, enter, add_to, owner_of, c
 use Rattle.trace.specs.Shift.{epsilon_item, epsilon, shift_trace, shift_edges}
 use Rattle.trace.specs.Reduce.{reduce_state_item, item_of_reduce, state_of_reduce, reduce_trace, reduce_edges}
 use Rattle.trace.specs.Sound.{apart_ends, owner_of_node, EdgeSound, ShiftStep, ReduceStep, Known, Rooted, bare, one_more, Sound}
-use Rattle.trace.proofs.Once.{node_same, edge_equal, add_there, add_new, add-all, add_once, once-nil}
+use Rattle.trace.proofs.Once.{edge_equal, add_there, add_new, add-all, add_once, once-nil}
 use Rattle.trace.proofs.Grows.{Adds, Grows, grows_some, turn_nil, turn_cons, turn_grows, epsilon_cannot, epsilon_past, epsilon_beginning, epsilon-zero, epsilon-entered, epsilon_new, epsilon_item_grows, epsilon_grows, reduce_cannot, reduce_nullable, reduce_ends, reduce_item_is, reduce_zero, reduce_entered, reduce_new, reduce_item_grows, reduce_state_item_grows, reduce_grows}
 use Rattle.trace.proofs.Fuel.{owner_lt}
+use Rattle.lr1_base.proofs.laws.Bools.{and-true}
+use Rattle.trace_graph.proofs.Labels.{node_refl}
 
 -- a fact of a whole list holds of its members
 all-member {ℓ} : {A : Type ℓ} (P : A → Type 0) (x : A) (xs : List A) → Memᴰ x xs → All P xs → P x
@@ -45,7 +46,7 @@ item_fits T i h = rw (lt-ltb i.production (length T.productions) h.production) (
 pub fits-item : (T : Table) (i : Item) → item_is_fit T.productions i.production i.index ≡ true → ItemFits T i
 unfolding item_is_fit
 fits-item T i h =
-    let r = and_both (ltb i.production (length T.productions)) (leb i.index (length (production_at T i.production).symbols)) h in
+    let r = and-true (ltb i.production (length T.productions)) (leb i.index (length (production_at T i.production).symbols)) h in
     record {
       production = ltb-true i.production (length T.productions) r.0;
       index = leb-true i.index (length (production_at T i.production).symbols) r.1;
@@ -290,7 +291,7 @@ module _ (T : Table) (fits : TableFits T) where
   first_node i =
       let e : TraceEdge = record { source = at_nonterminal (owner_of T i); target = at_item i; label = i } in
       rw (add_new T.productions (record { source = at_nonterminal (owner_of T i); target = at_item i; label = i }) [] (some?-nil (is_same_edge T.productions e)))
-      (some?-yes (λ (d : TraceEdge). elim (is_same_node (at_item i) d.source) [ true ↦ true | false ↦ is_same_node (at_item i) d.target ]) e [] (node_same (at_item i)))
+      (some?-yes (λ (d : TraceEdge). elim (is_same_node (at_item i) d.source) [ true ↦ true | false ↦ is_same_node (at_item i) d.target ]) e [] (node_refl (at_item i)))
 
   node_stays : (v : Node) (st to : Trace) → Grows st to → is_node_of v st.edges ≡ true → is_node_of v to.edges ≡ true
   unfolding is_node_of

@@ -1,6 +1,6 @@
 -- The edges that tracing adds, by the item that is at hand. Assumes nothing: these are definitions.
 use Rattle.std.specs.Prelude.{ℕ, Bool, true, false, List, nat_lt, slice_index_or}
-use Rattle.repr.specs.Meaning.{Item, Production, no_production}
+use Rattle.lr1_base.specs.repr.Meaning.{Item, Production, no_production}
 use Rattle.trace_graph.specs.Graph.{Node, at_nonterminal, at_item, TraceEdge}
 
 unfoldable pub item_at : ℕ → ℕ → Item

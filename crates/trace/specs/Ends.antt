@@ -1,9 +1,9 @@
 -- Which items have a suffix that may derive the empty string, as the code keeps them while it traces: a flag for each item, at production * 17 + index, 64 to a word.
 -- Assumes nothing: these are definitions.
 use Rattle.std.specs.Prelude.{◌≡◌, ℕ, ◌+◌, ◌*◌, ◌<◌, ◌≤◌, false, List, length}
-use Rattle.repr.specs.Sizes.{index_limit, item_flags}
-use Rattle.repr.specs.Meaning.{Item, Table, ItemFits}
-use Rattle.bits.specs.Bits.{bit_at}
+use Rattle.lr1_base.specs.repr.Sizes.{index_limit, item_flags}
+use Rattle.lr1_base.specs.repr.Meaning.{Item, Table, ItemFits}
+use Rattle.lr1_base.specs.bits.Bits.{bit_at}
 use Rattle.first.specs.First.{nullable}
 use Rattle.trace.specs.Traced.{suffix_of}
 

@@ -1,3 +1,4 @@
+pub mod edge_codes
 pub mod Traced
 pub mod Seen
 pub mod Shifting
@@ -8,3 +9,22 @@ pub mod Edges
 pub mod Ends
 pub mod Met
 pub mod Passed
+pub mod Outcome
+pub mod Held
+pub mod Stamps
+pub mod Built
+pub mod TracedGraph
+pub mod Tails
+pub mod Clear
+pub use Rattle.lr1_base.specs.bits
+pub use Rattle.lr1_base.specs.item
+pub use Rattle.lr1_base.specs.repr
+pub use Rattle.lr1_base.specs.words
+pub use Rattle.table.specs.Decoded
+pub use Rattle.table.specs.Index
+pub use Rattle.first.specs.First
+pub use Rattle.state_graph.specs.States
+pub use Rattle.state_graph.specs.Walk
+pub use Rattle.trace_graph.specs.Graph
+pub use Rattle.trace_graph.specs.Values
+pub use Rattle.trace_graph.specs.Words

@@ -1,8 +1,8 @@
 -- An item that was traced on from a state: its own edge is there, and the pairs that it leads to are entered. Traced on from there again it changes nothing (`met_still` of proofs/Repeated).
 -- Assumes nothing: these are definitions.
 use Rattle.std.specs.Prelude.{◌≡◌, ℕ, true}
-use Rattle.repr.specs.Lists.{mem, some?}
-use Rattle.repr.specs.Meaning.{Item, Table}
+use Rattle.lr1_base.specs.repr.Lists.{mem, some?}
+use Rattle.lr1_base.specs.repr.Meaning.{Item, Table}
 use Rattle.state_graph.specs.Walk.{traced_back}
 use Rattle.trace_graph.specs.Graph.{at_nonterminal, at_item, is_same_edge}
 use Rattle.trace.specs.Traced.{Trace, pair, owner_of, prefix_of}

@@ -1,8 +1,8 @@
 -- A state whose items lead to nothing new: a shift trace has the same edges without it (`left_out` of proofs/Passed). D: nonterminals that were entered from another state.
 -- Assumes nothing: these are definitions.
 use Rattle.std.specs.Prelude.{◌≡◌, ℕ, ◌<◌, Bool, true, false, List, length, nat_lt}
-use Rattle.repr.specs.Lists.{some?}
-use Rattle.repr.specs.Meaning.{Item, Table, All}
+use Rattle.lr1_base.specs.repr.Lists.{some?}
+use Rattle.lr1_base.specs.repr.Meaning.{Item, Table, All}
 use Rattle.trace_graph.specs.Graph.{TraceEdge, is_same_edge}
 use Rattle.trace.specs.Traced.{owner_of, can_shift}
 use Rattle.trace.specs.Edges.{epsilon_edge}

@@ -1,6 +1,6 @@
 -- How many pairs of a state and a nonterminal are not entered yet: the measure of tracing. Assumes nothing: these are definitions.
 use Rattle.std.specs.Prelude.{ℕ, zero, suc, true, false, List}
-use Rattle.repr.specs.Lists.{mem}
+use Rattle.lr1_base.specs.repr.Lists.{mem}
 
 -- of the numbers below k those that are not in the list
 unfoldable pub free : ℕ → List ℕ → ℕ

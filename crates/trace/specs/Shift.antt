@@ -1,7 +1,7 @@
 -- `backtrace_shift` (lr1/trace/shift). Assumes nothing: these are definitions.
 use Rattle.std.specs.Prelude.{ℕ, zero, suc, true, false, List, nat_lt}
-use Rattle.repr.specs.Lists.{mem}
-use Rattle.repr.specs.Meaning.{Item, Table, state_at}
+use Rattle.lr1_base.specs.repr.Lists.{mem}
+use Rattle.lr1_base.specs.repr.Meaning.{Item, Table, state_at}
 use Rattle.state_graph.specs.Walk.{traced_back}
 use Rattle.trace_graph.specs.Graph.{TraceEdge, at_nonterminal, at_item}
 use Rattle.trace.specs.Traced.{Trace, untraced, pair, enter, add_to, owner_of, can_shift, prefix_of, in_turn, pairs}

@@ -1,9 +1,9 @@
 -- The items of a state that can shift a nonterminal, each once, in the order of the chain: tracing over them gives what tracing over the chain gives (`epsilon-shifting` and
 -- `reduce_shifting` of proofs/Repeated). Assumes nothing: these are definitions.
 use Rattle.std.specs.Prelude.{ℕ, ◌/◌, ◌%◌, true, false, List, [], ◌∷◌}
-use Rattle.repr.specs.Sizes.{index_limit}
-use Rattle.repr.specs.Lists.{some?, keep}
-use Rattle.repr.specs.Meaning.{Item, Table, state_at}
+use Rattle.lr1_base.specs.repr.Sizes.{index_limit}
+use Rattle.lr1_base.specs.repr.Lists.{some?, keep}
+use Rattle.lr1_base.specs.repr.Meaning.{Item, Table, state_at}
 use Rattle.trace_graph.specs.Graph.{same_item}
 use Rattle.trace.specs.Traced.{can_shift}
 
@@ -17,7 +17,3 @@ distinct is = distinct_from [] is
 
 unfoldable pub shifting : Table → ℕ → ℕ → List Item
 shifting T s n = distinct (keep (can_shift T n) (state_at T s).items)
-
--- an item in one word: production * 17 + index
-unfoldable pub item_of : ℕ → Item
-item_of c = record { production = c / index_limit; index = c % index_limit }

@@ -2,8 +2,8 @@
 -- a lent graph; the traced item is a node of it; how the ends of an edge go with its label; and how one edge leads to another. Assumes nothing: these are definitions.
 use Rattle.std.specs.Prelude.{◌≡◌, ℕ, ◌≤◌, Bool, true, false, ◌⊎◌, List, [], ◌∷◌, ◌++◌, length}
 use mathlib.Core.List.{Memᴰ}
-use Rattle.repr.specs.Sizes.{edge_limit}
-use Rattle.repr.specs.Meaning.{Item, Table, All}
+use Rattle.lr1_base.specs.repr.Sizes.{edge_limit}
+use Rattle.lr1_base.specs.repr.Meaning.{Item, Table, All}
 use Rattle.trace_graph.specs.Graph.{Node, at_nonterminal, at_item, TraceEdge, is_node_of}
 use Rattle.trace_graph.specs.Words.{graph_words}
 use Rattle.trace_graph.specs.Fits.{item_is_fit, once, graph_fits}

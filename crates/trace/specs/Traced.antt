@@ -1,8 +1,8 @@
 -- What tracing carries along, part 5 of document 01 (lr1/trace): the edges in the order added, and the pairs of a state and a nonterminal that are entered.
 -- Assumes nothing: these are definitions.
 use Rattle.std.specs.Prelude.{ℕ, ◌+◌, ◌*◌, Bool, List, [], ◌∷◌}
-use Rattle.repr.specs.Meaning.{Symbol, Item, Table, production_at}
-use Rattle.lr1_core.specs.Items.{shifts_nonterminal, symbol_sets}
+use Rattle.lr1_base.specs.repr.Meaning.{Symbol, Item, Table, production_at}
+use Rattle.lr1_base.specs.item.Items.{shifts_nonterminal, symbol_sets}
 use Rattle.trace_graph.specs.Graph.{Node, TraceEdge, empty_graph, add}
 
 pub record Trace : Type 0 where

@@ -1,12 +1,12 @@
 -- Laws of buckets (specs/Index): equal edges have the same, and the words that it is computed from. Assumes nothing.
 use Rattle.std.proofs.Common.{◌≡◌, ℕ, zero, suc, ◌+◌, ◌*◌, ◌%◌, ◌<◌, true, List, ◌++◌, length, get_or, sym, ap, ◌∙◌, arith}
-use Rattle.repr.specs.Sizes.{nonterminal_limit, terminal_limit}
-use Rattle.repr.specs.Meaning.{Symbol, Production, no_production}
-use Rattle.repr.specs.Listed.{symbol_of_kind, listed, symbol_is_fit, list_is_fit}
-use Rattle.repr.specs.Packed.{symbol_words, Packed, productions_in}
-use Rattle.repr.proofs.Listed.{symbol_range, and_left, and_right}
-use Rattle.repr.proofs.FrontSymbol.{listed_short}
-use Rattle.repr.proofs.Chunks.{pair_listed, pair_fits}
+use Rattle.lr1_base.specs.repr.Sizes.{nonterminal_limit, terminal_limit}
+use Rattle.lr1_base.specs.repr.Meaning.{Symbol, Production, no_production}
+use Rattle.lr1_base.specs.repr.Listed.{symbol_of_kind, listed, symbol_is_fit, list_is_fit}
+use Rattle.lr1_base.specs.repr.Packed.{symbol_words, Packed, productions_in}
+use Rattle.lr1_base.proofs.repr.Listed.{symbol_range}
+use Rattle.lr1_base.proofs.repr.FrontSymbol.{listed_short}
+use Rattle.lr1_base.proofs.repr.Chunks.{pair_listed, pair_fits}
 use Rattle.trace_graph.specs.declared.TraceEdge.{TraceEdge as EdgeValue}
 use Rattle.trace_graph.specs.Graph.{Node, TraceEdge, label_of, same_sets, is_same_edge}
 use Rattle.trace_graph.specs.Fits.{item_is_fit}
@@ -14,6 +14,7 @@ use Rattle.trace_graph.specs.Index.{number_of_node, symbol_number, mixed, bucket
 use Rattle.trace_graph.specs.Values.{node_is, edge_is}
 use Rattle.trace_graph.proofs.Labels.{sets_refl, label_parts, edge_parts}
 use Rattle.trace_graph.proofs.Fits.{item-parts, production-symbols}
+use Rattle.lr1_base.proofs.laws.Bools.{and_left, and_right}
 
 -- equal edges are in the same bucket
 pub same_bucket : (ps : List Production) (e f : TraceEdge) → item_is_fit ps e.label.production e.label.index ≡ true → item_is_fit ps f.label.production f.label.index ≡ true

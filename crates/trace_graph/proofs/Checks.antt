@@ -1,20 +1,21 @@
 -- The ways through `check_edge` and `check_graph`: a graph's edges are different from each other where each is different from those before it. Assumes nothing.
 use Rattle.std.proofs.Common.{◌≡◌, ℕ, zero, suc, ◌+◌, ◌<◌, ◌≤◌, Bool, true, false, not, ◌&&◌, ◌||◌, leb, List, [], ◌∷◌, ◌++◌, length, get_or, replicate, sym, refl, ap, ◌∙◌, arith, le-leb, leb-true}
 use mathlib.Core.Bool.{or-false}
-use Rattle.repr.specs.Sizes.{edge_limit, graph_room}
-use Rattle.repr.specs.Lists.{below, some?, every?}
-use Rattle.repr.specs.Meaning.{Production}
-use Rattle.repr.specs.Packed.{Packed, productions_in}
-use Rattle.repr.proofs.Lists.{clash, below_last}
-use Rattle.repr.proofs.Tests.{some?-nil, some?-cons, some?-append, every?_nil, every?_cons, every?_append, every?_below, every?_below_intro}
+use Rattle.lr1_base.specs.repr.Sizes.{edge_limit, graph_room}
+use Rattle.lr1_base.specs.repr.Lists.{below, some?, every?}
+use Rattle.lr1_base.specs.repr.Meaning.{Production}
+use Rattle.lr1_base.specs.repr.Packed.{Packed, productions_in}
+use Rattle.lr1_base.proofs.repr.Lists.{clash, below_last}
+use Rattle.lr1_base.proofs.repr.Tests.{some?-nil, some?-cons, some?-append, every?_nil, every?_cons, every?_append, every?_below, every?_below_intro}
 use Rattle.trace_graph.specs.declared.TraceEdge.{TraceEdge as EdgeValue}
 use Rattle.trace_graph.specs.Graph.{TraceEdge, is_same_edge}
 use Rattle.trace_graph.specs.Words.{edge_at}
 use Rattle.trace_graph.specs.Fits.{edge_is_fit, once, graph_fits}
 use Rattle.trace_graph.specs.Index.{bucket_number, bucket_limit, index_room}
 use Rattle.trace_graph.specs.Values.{edge_is, value_fits, SmallEdge, edge_read, first_edges}
-use Rattle.trace_graph.specs.Insert.{Graphed, chained, fresh}
-use Rattle.trace_graph.proofs.Bools.{both, and_left, and_right, never}
+use Rattle.lr1_base.specs.hash_index.Chains.{chained}
+use Rattle.trace_graph.specs.Insert.{Graphed, fresh}
+use Rattle.lr1_base.proofs.laws.Bools.{both, and_left, and_right, never}
 use Rattle.trace_graph.proofs.Labels.{edge_sym}
 use Rattle.trace_graph.proofs.Words.{edge_read_lem, fits_read, first-none, first_more, edges_first}
 use Rattle.trace_graph.proofs.Fits.{value_small}

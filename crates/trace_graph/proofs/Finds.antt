@@ -2,10 +2,10 @@
 use Rattle.std.proofs.Common.{◌≡◌, ℕ, suc, ◌+◌, ◌-◌, ◌<◌, Bool, true, false, ◌&&◌, List, get_or, sym, ap, ◌∙◌, arith}
 use native.Mathlib.Decide.{ℕ_discrete}
 use borrow.Author.Tests.{eqb-false}
-use Rattle.repr.specs.Sizes.{edge_limit}
-use Rattle.repr.specs.Lists.{some?}
-use Rattle.repr.specs.Meaning.{Production}
-use Rattle.repr.specs.Packed.{Packed, productions_in}
+use Rattle.lr1_base.specs.repr.Sizes.{edge_limit}
+use Rattle.lr1_base.specs.repr.Lists.{some?}
+use Rattle.lr1_base.specs.repr.Meaning.{Production}
+use Rattle.lr1_base.specs.repr.Packed.{Packed, productions_in}
 use Rattle.trace_graph.specs.declared.TraceEdge.{TraceEdge as EdgeValue}
 use Rattle.trace_graph.specs.Graph.{label_of, same_sets, is_same_edge}
 use Rattle.trace_graph.specs.Words.{edge_at}
@@ -13,7 +13,7 @@ use Rattle.trace_graph.specs.Fits.{item_is_fit, edge_is_fit}
 use Rattle.trace_graph.specs.Index.{bucket_number, in_bucket, bucket_limit}
 use Rattle.trace_graph.specs.Values.{edge_is, same_value, value_fits, edge_read, first_edges}
 use Rattle.trace_graph.specs.Insert.{Graphed}
-use Rattle.trace_graph.proofs.Bools.{never}
+use Rattle.lr1_base.proofs.laws.Bools.{never}
 use Rattle.trace_graph.proofs.Words.{edge_read_lem, fits_read}
 use Rattle.trace_graph.proofs.Fits.{same_value_lem, source_fits, target_fits, label_fits}
 use Rattle.trace_graph.proofs.Buckets.{same_bucket}

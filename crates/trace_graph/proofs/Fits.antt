@@ -1,12 +1,12 @@
 -- Numbers in range (specs/Fits, specs/Values): items, nodes and edges of a table's productions in words. Assumes nothing.
 use Rattle.std.proofs.Common.{◌≡◌, ℕ, zero, suc, ◌+◌, ◌*◌, ◌<◌, ◌≤◌, Bool, true, false, ◌&&◌, eqb, ltb, leb, List, length, get_or, sym, refl, ap, ◌∙◌, true≢false, arith, ltb-true, le-ltb, lt-ltb, eq-eqb, ne_eqb, eqb-true, leb-true}
-use Rattle.repr.specs.Sizes.{nonterminal_limit, index_limit}
-use Rattle.slices.specs.Same.{same_words}
-use Rattle.repr.specs.Meaning.{Production, no_production}
-use Rattle.repr.specs.Listed.{listed}
-use Rattle.repr.specs.Packed.{symbol_words, production_in, productions_in, Packed}
-use Rattle.repr.proofs.Lists.{length-map-below, get_d_map-below}
-use Rattle.repr.proofs.Parts.{symbols_long}
+use Rattle.lr1_base.specs.repr.Sizes.{nonterminal_limit, index_limit}
+use Rattle.lr1_base.specs.words.Same.{same_words}
+use Rattle.lr1_base.specs.repr.Meaning.{Production, no_production}
+use Rattle.lr1_base.specs.repr.Listed.{listed}
+use Rattle.lr1_base.specs.repr.Packed.{symbol_words, production_in, productions_in, Packed}
+use Rattle.lr1_base.proofs.repr.Lists.{length-map-below, get_d_map-below}
+use Rattle.lr1_base.proofs.repr.Parts.{symbols_long}
 use Rattle.trace_graph.specs.declared.Node.{Node as NodeValue}
 use Rattle.trace_graph.specs.declared.TraceEdge.{TraceEdge as EdgeValue}
 use Rattle.trace_graph.specs.Graph.{same_item, is_same_node, label_of, same_symbols, same_sets}
@@ -14,15 +14,12 @@ use Rattle.trace_graph.specs.Words.{node_of}
 use Rattle.trace_graph.specs.Fits.{item_is_fit, node_fits}
 use Rattle.trace_graph.specs.Index.{number_of_node, InRange}
 use Rattle.trace_graph.specs.Values.{node_is, same_value, node_value_fits, value_fits, SmallNode, SmallEdge}
-use Rattle.trace_graph.proofs.Bools.{and_left, and_right}
+use Rattle.lr1_base.proofs.laws.Bools.{and_left, and_right}
 use Rattle.trace_graph.proofs.Labels.{same_label_is, symbols_refl}
 use Rattle.trace_graph.proofs.Same.{words-symbols}
+use Rattle.lr1_base.proofs.repr.Packed.{productions_long}
 
 -- productions in words
-
-pub productions_long : (g : List ℕ) (m : ℕ) → length (productions_in g m) ≡ m
-unfolding productions_in
-productions_long g m = length-map-below (production_in g) m
 
 pub production-symbols : (g : List ℕ) (m p : ℕ) → p < m → (get_or (productions_in g m) p no_production).symbols ≡ listed (symbol_words g p)
 unfolding productions_in production_in

@@ -1,10 +1,10 @@
 -- What an added edge does to a graph's words: counts, the words past the edges, and the words in front where they are those of a list of edges. Assumes nothing.
 use Rattle.std.proofs.Common.{◌≡◌, ℕ, suc, ◌+◌, ◌*◌, ◌≤◌, List, [], ◌∷◌, ◌++◌, length, get_or, take, drop, sym, ap, ◌∙◌, arith, length-append, drop-drop, take_at, drop_at}
 use lib.Seq.{sets, sets-eq}
-use Rattle.repr.specs.Sizes.{edge_room, edge_place}
-use Rattle.repr.specs.Lists.{joined}
-use Rattle.repr.specs.Meaning.{Production}
-use Rattle.repr.proofs.Lists.{joined_nil, joined_cons, joined_append}
+use Rattle.lr1_base.specs.repr.Sizes.{edge_room, edge_place}
+use Rattle.lr1_base.specs.repr.Lists.{joined}
+use Rattle.lr1_base.specs.repr.Meaning.{Production}
+use Rattle.lr1_base.proofs.repr.Lists.{joined_nil, joined_cons, joined_append}
 use Rattle.trace_graph.specs.Graph.{TraceEdge, add}
 use Rattle.trace_graph.specs.Words.{edge_words, graph_words, edges_in}
 use Rattle.trace_graph.specs.Values.{written}

@@ -3,42 +3,18 @@ use Rattle.std.proofs.Common.{◌≡◌, ℕ, zero, suc, ◌+◌, ◌<◌, ◌�
 use mathlib.Core.Bool.{or-false, or-true}
 use lib.ListN.{length-replicate, get_or-replicate}
 use borrow.Author.Tests.{eqb-false}
-use Rattle.repr.specs.Sizes.{edge_limit}
-use Rattle.repr.specs.Lists.{some?}
-use Rattle.repr.specs.Meaning.{Production}
-use Rattle.repr.proofs.Lists.{cases}
-use Rattle.repr.proofs.Tests.{some?-append, some?-yes, some?_no, some?-nil}
+use Rattle.lr1_base.specs.repr.Sizes.{edge_limit}
+use Rattle.lr1_base.specs.repr.Lists.{some?}
+use Rattle.lr1_base.specs.repr.Meaning.{Production}
+use Rattle.lr1_base.proofs.repr.Lists.{cases}
+use Rattle.lr1_base.proofs.repr.Tests.{some?-append, some?-yes, some?_no, some?-nil}
 use Rattle.trace_graph.specs.Graph.{TraceEdge}
 use Rattle.trace_graph.specs.Words.{edge_at}
-use Rattle.trace_graph.specs.Index.{bucket_number, in_bucket, newest, Linked, Indexed, bucket_limit, index_room}
+use Rattle.lr1_base.specs.hash_index.Chains.{newest, Linked, chained}
+use Rattle.lr1_base.proofs.hash_index.Chains.{newest-none, newest-yes, newest_no, linked_cons, linked_nil, linked_top, linked_step, chained_long, chain_joined, chain_beside}
+use Rattle.trace_graph.specs.Index.{bucket_number, in_bucket, Indexed, bucket_limit, index_room}
 use Rattle.trace_graph.specs.Values.{first_edges}
-use Rattle.trace_graph.specs.Insert.{chained}
 use Rattle.trace_graph.proofs.Words.{first-none, first_more}
-
--- the edges that pass a test
-
-module _ (u : ℕ → Bool) where
-  pub newest-none : newest u 0 ≡ []
-  unfolding newest
-  newest-none = refl
-
-  pub newest-yes : (k : ℕ) → u k ≡ true → newest u (suc k) ≡ k ∷ newest u k
-  unfolding newest
-  newest-yes k e = rw (e, newest)
-
-  pub newest_no : (k : ℕ) → u k ≡ false → newest u (suc k) ≡ newest u k
-  unfolding newest
-  newest_no k e = rw (e, newest)
-
--- tests that agree below k
-pub newest-kept : (u u' : ℕ → Bool) (k : ℕ) → ((j : ℕ) → j < k → u' j ≡ u j) → newest u' k ≡ newest u k
-newest-kept u u' zero h = newest-none u' ∙ sym (newest-none u)
-newest-kept u u' (suc k) h =
-    let rest = newest-kept u u' k (λ j l. h j (omega arith)) in
-    let t = h k (omega arith) in
-    cases (u k)
-    (λ s. newest-yes u' k (t ∙ s) ∙ rw rest (sym (newest-yes u k s)))
-    (λ s. newest_no u' k (t ∙ s) ∙ rest ∙ sym (newest_no u k s))
 
 -- an edge that is kept is in the same bucket
 pub bucket_kept : (ps : List Production) (ws ws' : List ℕ) (b j : ℕ) → edge_at ws' j ≡ edge_at ws j → in_bucket ps ws' b j ≡ in_bucket ps ws b j
@@ -48,36 +24,13 @@ bucket_kept ps ws ws' b j e = rw e
 -- links
 
 module _ (ix : List ℕ) (links : ℕ) (u : ℕ → Bool) where
-  linked_cons : (h k : ℕ) (ks : List ℕ) → Linked ix links h (k ∷ ks) → (h ≡ suc k) × Linked ix links (get_or ix (links + k) 0) ks
-  unfolding Linked
-  linked_cons h k ks l = l
-
-  linked_nil : (h : ℕ) → Linked ix links h [] → h ≡ 0
-  unfolding Linked
-  linked_nil h l = l
-
-  -- a link is to the latest edge that passes
-  pub linked_top : (h k : ℕ) → Linked ix links h (newest u k) → (h ≤ k) × (newest u k ≡ newest u h)
-  linked_top h zero l = let z = linked_nil h (rw (newest-none u) at l) in (omega arith, ap (newest u) (sym z))
-  linked_top h (suc k) l =
-      cases (u k)
-      (λ s. let e = (linked_cons h k (newest u k) (rw (newest-yes u k s) at l)).0 in (omega arith, ap (newest u) (sym e)))
-      (λ s. let r = linked_top h k (rw (newest_no u k s) at l) in (omega (arith, r.0), newest_no u k s ∙ r.1))
-
-  -- the link behind a link
-  pub linked_step : (i : ℕ) → Linked ix links (suc i) (newest u (suc i)) → Linked ix links (get_or ix (links + i) 0) (newest u i)
-  linked_step i l =
-      cases (u i)
-      (λ s. (linked_cons (suc i) i (newest u i) (rw (newest-yes u i s) at l)).1)
-      (λ s. let r = linked_top (suc i) i (rw (newest_no u i s) at l) in absurd (omega (arith, r.0)))
-
   -- a test that only edges of the chain pass is passed by none between a link and k
   pub linked_some : (ws : List ℕ) (t : TraceEdge → Bool) (h k : ℕ) → ((j : ℕ) → j < k → u j ≡ false → t (edge_at ws j) ≡ false)
       → Linked ix links h (newest u k) → some? t (first_edges ws k) ≡ some? t (first_edges ws h)
-  linked_some ws t h zero f l = let z = linked_nil h (rw (newest-none u) at l) in ap (λ (j : ℕ). some? t (first_edges ws j)) (sym z)
+  linked_some ws t h zero f l = let z = linked_nil ix links u h (rw (newest-none u) at l) in ap (λ (j : ℕ). some? t (first_edges ws j)) (sym z)
   linked_some ws t h (suc k) f l =
       cases (u k)
-      (λ s. let e = (linked_cons h k (newest u k) (rw (newest-yes u k s) at l)).0 in ap (λ (j : ℕ). some? t (first_edges ws j)) (sym e))
+      (λ s. let e = (linked_cons ix links u h k (newest u k) (rw (newest-yes u k s) at l)).0 in ap (λ (j : ℕ). some? t (first_edges ws j)) (sym e))
       (λ s. some_no t ws k (f k (omega arith) s) ∙ linked_some ws t h k (λ j m. f j (omega arith)) (rw (newest_no u k s) at l))
     where
       some_no : (t : TraceEdge → Bool) (ws : List ℕ) (k : ℕ) → t (edge_at ws k) ≡ false → some? t (first_edges ws (suc k)) ≡ some? t (first_edges ws k)
@@ -88,17 +41,6 @@ pub some-last : (t : TraceEdge → Bool) (ws : List ℕ) (k : ℕ) → some? t (
 some-last t ws k =
     rw (first_more ws k) (some?-append t (first_edges ws k) (edge_at ws k ∷ [])
     ∙ cases (t (edge_at ws k)) (λ e. rw (some?-yes t (edge_at ws k) [] e, e)) (λ e. rw (some?_no t (edge_at ws k) [] e, some?-nil t, e)))
-
--- links along edges below k that are unchanged
-pub linked_kept : (ix ix' : List ℕ) (links : ℕ) (u : ℕ → Bool) (h k : ℕ) → ((j : ℕ) → j < k → get_or ix' (links + j) 0 ≡ get_or ix (links + j) 0) → Linked ix links h (newest u k) → Linked ix' links h (newest u k)
-unfolding Linked
-linked_kept ix ix' links u h zero f l = rw (newest-none u) (rw (newest-none u) at l)
-linked_kept ix ix' links u h (suc k) f l =
-    cases (u k)
-    (λ s.
-    let p = rw (newest-yes u k s) at l in
-    rw (newest-yes u k s) (p.0, rw (f k (omega arith)) (linked_kept ix ix' links u (get_or ix (links + k) 0) k (λ j m. f j (omega arith)) p.1)))
-    (λ s. rw (newest_no u k s) (linked_kept ix ix' links u h k (λ j m. f j (omega arith)) (rw (newest_no u k s) at l)))
 
 -- the turns of `find`: what is left to do gives what the whole gives
 pub record Turn (ws ix : List ℕ) (links : ℕ) (u : ℕ → Bool) (t : TraceEdge → Bool) (k next : ℕ) : Type 0 where
@@ -135,47 +77,6 @@ module _ (ws ix : List ℕ) (links : ℕ) (u : ℕ → Bool) (t : TraceEdge → 
           linked = rw r.1 at l;
           same = sym (linked_some ix links u ws t j i (λ m g. f m (omega arith)) l) ∙ sym (some-last t ws i ∙ rw h (or-false (some? t (first_edges ws i)))) ∙ (rw e at T.same);
         }
-
--- an edge put in front of a chain
-
-module _ (ix : List ℕ) (links head k : ℕ) where
-  pub chained_long : length (chained ix links head k) ≡ length ix
-  unfolding chained
-  chained_long = length-set (set ix (links + k) (get_or ix head 0)) head (k + 1) ∙ length-set ix (links + k) (get_or ix head 0)
-
-  -- the other words
-  chained-other : (i : ℕ) → (i ≡ head → ⊥) → (i ≡ links + k → ⊥) → get_or (chained ix links head k) i 0 ≡ get_or ix i 0
-  unfolding chained
-  chained-other i a b =
-      get_or-set_other (set ix (links + k) (get_or ix head 0)) head i (k + 1) 0 a
-      ∙ get_or-set_other ix (links + k) i (get_or ix head 0) 0 b
-
-  -- the heads lie below the links, all within the words
-  module _ (low : head < links) (room : links + k < length ix) where
-    chained-head : get_or (chained ix links head k) head 0 ≡ suc k
-    unfolding chained
-    chained-head =
-        get_or-set_same (set ix (links + k) (get_or ix head 0)) head (k + 1) 0 (rw (length-set ix (links + k) (get_or ix head 0)) (omega arith))
-        ∙ omega arith
-
-    chained_link : get_or (chained ix links head k) (links + k) 0 ≡ get_or ix head 0
-    unfolding chained
-    chained_link =
-        get_or-set_other (set ix (links + k) (get_or ix head 0)) head (links + k) (k + 1) 0 (λ q. omega arith)
-        ∙ get_or-set_same ix (links + k) (get_or ix head 0) 0 room
-
-    -- the chain that edge k joins
-    pub chain_joined : (u : ℕ → Bool) → u k ≡ true → Linked ix links (get_or ix head 0) (newest u k)
-        → Linked (chained ix links head k) links (get_or (chained ix links head k) head 0) (newest u (suc k))
-    unfolding Linked
-    chain_joined u s l =
-        rw (newest-yes u k s) (chained-head, rw chained_link (linked_kept ix (chained ix links head k) links u (get_or ix head 0) k (λ j h. chained-other (links + j) (λ q. omega arith) (λ q. omega arith)) l))
-
-    -- another chain by the same links
-    pub chain_beside : (u : ℕ → Bool) (head' : ℕ) → head' < links → (head' ≡ head → ⊥) → u k ≡ false → Linked ix links (get_or ix head' 0) (newest u k)
-        → Linked (chained ix links head k) links (get_or (chained ix links head k) head' 0) (newest u (suc k))
-    chain_beside u head' h ne s l =
-        rw (newest_no u k s, chained-other head' ne (λ q. omega arith)) (linked_kept ix (chained ix links head k) links u (get_or ix head' 0) k (λ j m. chained-other (links + j) (λ q. omega arith) (λ q. omega arith)) l)
 
 -- no edges
 pub index_none : (ps : List Production) (ws ix : List ℕ) → ix ≡ replicate index_room 0 → Indexed ps ws ix 0

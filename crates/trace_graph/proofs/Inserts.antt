@@ -1,20 +1,22 @@
 -- The ways through `insert`: a graph with its index, and an edge more. Assumes nothing.
 use Rattle.std.proofs.Common.{◌≡◌, ℕ, ◌+◌, ◌<◌, ◌≤◌, Bool, true, false, List, [], ◌∷◌, ◌++◌, length, get_or, set, sym, refl, ap, ◌∙◌, add-one, arith}
 use native.Mathlib.Decide.{ℕ_discrete}
-use Rattle.repr.specs.Sizes.{edge_limit, edge_place}
-use Rattle.repr.specs.Lists.{some?}
-use Rattle.repr.specs.Meaning.{Production}
-use Rattle.repr.specs.Packed.{Packed, productions_in}
+use Rattle.lr1_base.specs.repr.Sizes.{edge_limit, edge_place}
+use Rattle.lr1_base.specs.repr.Lists.{some?}
+use Rattle.lr1_base.specs.repr.Meaning.{Production}
+use Rattle.lr1_base.specs.repr.Packed.{Packed, productions_in}
 use Rattle.trace_graph.specs.declared.TraceEdge.{TraceEdge as EdgeValue}
 use Rattle.trace_graph.specs.Graph.{TraceEdge, is_same_edge, add}
 use Rattle.trace_graph.specs.Words.{edge_at, edges_in}
 use Rattle.trace_graph.specs.Fits.{edge_is_fit}
 use Rattle.trace_graph.specs.Index.{bucket_number, in_bucket, bucket_limit}
 use Rattle.trace_graph.specs.Values.{edge_is, value_fits, SmallEdge, edge_read, value_words, written, first_edges}
-use Rattle.trace_graph.specs.Insert.{Graphed, chained, with_one_more, add_words, Added, Overfull}
+use Rattle.lr1_base.specs.hash_index.Chains.{chained}
+use Rattle.trace_graph.specs.Insert.{Graphed, with_one_more, add_words, Added, Overfull}
 use Rattle.trace_graph.proofs.Words.{fits_read, edge_kept, fits_kept, edge_value, own_value, more_is, more_long, more_count, more-read, more_edge, more-other, edges_first, edges_more}
 use Rattle.trace_graph.proofs.Fits.{value_small}
-use Rattle.trace_graph.proofs.Index.{newest-kept, bucket_kept, index_linked}
+use Rattle.lr1_base.proofs.hash_index.Chains.{newest-kept}
+use Rattle.trace_graph.proofs.Index.{bucket_kept, index_linked}
 
 -- a test's two ways in `add` and `add_words`
 module _ (ps : List Production) (e : TraceEdge) where

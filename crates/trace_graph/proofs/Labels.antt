@@ -2,11 +2,11 @@
 -- Assumes nothing.
 use Rattle.std.proofs.Common.{◌≡◌, ℕ, suc, ◌≤◌, true, ◌&&◌, eqb, List, [], ◌∷◌, length, take, drop, sym, refl, ap, ◌∙◌, true≢false, add-one, arith, take-append-drop, length-take-le, drop-drop, eq-eqb, eqb-true}
 use mathlib.Core.Option.{Option, none, some}
-use Rattle.repr.specs.Meaning.{Symbol, is_same_symbol, Item, Production}
-use Rattle.repr.proofs.SameSymbol.{same_equal, same_refl}
-use Rattle.lr1_core.specs.Items.{Sets, first, symbol_sets}
+use Rattle.lr1_base.specs.repr.Meaning.{Symbol, is_same_symbol, Item, Production}
+use Rattle.lr1_base.proofs.repr.SameSymbol.{same_equal, same_refl}
+use Rattle.lr1_base.specs.item.Items.{Sets, first, symbol_sets}
 use Rattle.trace_graph.specs.Graph.{Node, at_nonterminal, at_item, same_item, is_same_node, TraceEdge, label_of, same_symbols, same_cursor, same_sets, is_same_edge}
-use Rattle.trace_graph.proofs.Bools.{both, and_left, and_right, agree}
+use Rattle.lr1_base.proofs.laws.Bools.{both, and_left, and_right, agree}
 
 -- symbols
 
@@ -32,7 +32,7 @@ cursor_equal none (some y) e = absurd (true≢false (sym e))
 cursor_equal (some x) none e = absurd (true≢false (sym e))
 cursor_equal (some x) (some y) e = ap {B = Option Symbol} some (same_equal x y e)
 
-cursor_refl : (x : Option Symbol) → same_cursor x x ≡ true
+pub cursor_refl : (x : Option Symbol) → same_cursor x x ≡ true
 unfolding same_cursor
 cursor_refl none = refl
 cursor_refl (some x) = same_refl x
@@ -97,7 +97,7 @@ module _ (xs ys : List Symbol) (i j : ℕ) (hi : i ≤ length xs) (hj : j ≤ le
 
 -- nodes
 
-item_equal : (a b : Item) → same_item a b ≡ true → a ≡ b
+pub item_equal : (a b : Item) → same_item a b ≡ true → a ≡ b
 unfolding same_item
 item_equal a b e =
     make (eqb-true a.production b.production (and_left _ _ e)) (eqb-true a.index b.index (and_right (eqb a.production b.production) _ e))

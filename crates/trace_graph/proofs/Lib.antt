@@ -1,4 +1,3 @@
-pub mod Bools
 pub mod Labels
 pub mod Same
 pub mod Stores

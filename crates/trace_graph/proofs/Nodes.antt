@@ -1,7 +1,7 @@
 -- Nodes by value (specs/Nodes) and words: the words of a node that words make are those words. Assumes nothing.
 use Rattle.std.proofs.Common.{◌≡◌, ℕ, zero, suc, refl}
-use Rattle.repr.specs.declared.NonterminalString.{NonterminalString}
-use Rattle.repr.specs.declared.ProductionIndex.{ProductionIndex}
+use Rattle.lr1_base.specs.declared.repr.NonterminalString.{NonterminalString}
+use Rattle.lr1_base.specs.declared.repr.ProductionIndex.{ProductionIndex}
 use Rattle.trace_graph.specs.declared.TraceGraphNode.{TraceGraphNode}
 use Rattle.trace_graph.specs.declared.TraceGraphNode.TheVariants.{Nonterminal, Item, Other}
 use Rattle.trace_graph.specs.Graph.{at_nonterminal, at_item}

@@ -2,15 +2,16 @@
 -- no edge stands twice. Assumes nothing.
 use Rattle.std.proofs.Common.{◌≡◌, ℕ, zero, suc, ◌+◌, ◌*◌, ◌<◌, ◌≤◌, Bool, true, ◌&&◌, List, [], ◌∷◌, ◌++◌, map, length, get_or, sym, refl, ap, ◌∙◌, append_assoc, append-nil, arith, get_or-append-add, ext_get_or, lt-ltb, le-leb}
 use lib.ListN.{get_or-append}
-use Rattle.repr.specs.Sizes.{edge_limit, edge_room, edge_place}
-use Rattle.repr.specs.Lists.{below, joined}
-use Rattle.repr.specs.Meaning.{Item, Production, All}
-use Rattle.repr.proofs.Lists.{length-map-below, get_d_map-below, joined_cons}
-use Rattle.repr.proofs.Tests.{All_at, every?_below_intro}
+use Rattle.lr1_base.specs.repr.Sizes.{edge_limit, edge_room, edge_place}
+use Rattle.lr1_base.specs.repr.Lists.{below, joined}
+use Rattle.lr1_base.specs.repr.Meaning.{Item, Production, All}
+use Rattle.lr1_base.proofs.repr.Lists.{length-map-below, get_d_map-below, joined_cons}
+use Rattle.lr1_base.proofs.repr.Tests.{All_at, every?_below_intro}
 use Rattle.trace_graph.specs.Graph.{Node, at_nonterminal, at_item, TraceEdge}
 use Rattle.trace_graph.specs.Words.{node_words, edge_words, graph_words, node_of, node_at, edge_at, edges_in}
 use Rattle.trace_graph.specs.Fits.{item_is_fit, node_fits, edge_is_fit, once, graph_fits}
 use Rattle.trace_graph.specs.Index.{InRange}
+use Rattle.trace_graph.proofs.Front.{edge_words_lem}
 
 -- eight words an edge
 
@@ -20,10 +21,6 @@ words_eight (at_nonterminal n) (at_nonterminal m) i = refl
 words_eight (at_nonterminal n) (at_item b) i = refl
 words_eight (at_item a) (at_nonterminal m) i = refl
 words_eight (at_item a) (at_item b) i = refl
-
-pub length_edge : (e : TraceEdge) → length (edge_words e) ≡ 8
-unfolding edge_words
-length_edge e = words_eight e.source e.target e.label
 
 -- the edge that eight words are
 unfoldable pub edge_in : List ℕ → TraceEdge
@@ -50,12 +47,12 @@ body-word : (es : List TraceEdge) (rest : List ℕ) (k c : ℕ) (d : TraceEdge) 
     → get_or (joined edge_words es ++ rest) (k * edge_room + c) 0 ≡ get_or (edge_words (get_or es k d)) c 0
 body-word [] rest k c d h l = absurd (omega arith)
 body-word (e ∷ es) rest zero c d h l =
-    let n = length_edge e in
+    let n = edge_words_lem e in
     let z : 0 * edge_room + c ≡ c = omega arith in
     rw (joined_cons edge_words e es, append_assoc (edge_words e) (joined edge_words es) rest, z)
     (get_or-append (edge_words e) (joined edge_words es ++ rest) 0 c (omega arith))
 body-word (e ∷ es) rest (suc k) c d h l =
-    let n = length_edge e in
+    let n = edge_words_lem e in
     let z : suc k * edge_room + c ≡ length (edge_words e) + (k * edge_room + c) = omega arith in
     rw (joined_cons edge_words e es, append_assoc (edge_words e) (joined edge_words es) rest, z)
     (get_or-append-add (edge_words e) (joined edge_words es ++ rest) (k * edge_room + c) 0 ∙ body-word es rest k c d (omega arith) l)

@@ -1,22 +1,14 @@
 -- `same_words` of specs/Same, and the symbols that words say. Assumes nothing.
 use Rattle.std.proofs.Common.{◌≡◌, ℕ, Bool, zero, suc, ◌<◌, true, ◌&&◌, eqb, List, [], ◌∷◌, sym, refl, ap, true≢false, arith}
 use Rattle.std.specs.Cmp.Lexicographic.{pointwise}
-use Rattle.repr.specs.Sizes.{nonterminal_limit, terminal_limit}
-use Rattle.slices.proofs.Same.{same_words_eq, same_words_refl}
-use Rattle.slices.specs.Same.{same_words}
-use Rattle.repr.specs.Listed.{symbol_of_kind, listed, symbol_is_fit, list_is_fit}
-use Rattle.repr.proofs.Listed.{symbol_range}
+use Rattle.lr1_base.specs.repr.Sizes.{nonterminal_limit, terminal_limit}
+use Rattle.lr1_base.proofs.words.Same.{same_words_eq, same_words_refl}
+use Rattle.lr1_base.specs.words.Same.{same_words}
+use Rattle.lr1_base.specs.repr.Listed.{symbol_of_kind, listed, symbol_is_fit, list_is_fit}
+use Rattle.lr1_base.proofs.repr.Listed.{symbol_range}
 use Rattle.trace_graph.specs.Graph.{same_symbols}
-use Rattle.trace_graph.proofs.Bools.{and_left, and_right, agree}
+use Rattle.lr1_base.proofs.laws.Bools.{and_left, and_right, agree}
 use Rattle.trace_graph.proofs.Labels.{symbols_equal, symbols_refl}
-
--- `==` of slices tests the words in turn
-pub words_pointwise : (a b : List ℕ) → pointwise eqb a b ≡ same_words a b
-unfolding same_words
-words_pointwise [] [] = refl
-words_pointwise [] (y ∷ b) = refl
-words_pointwise (x ∷ a) [] = refl
-words_pointwise (x ∷ a) (y ∷ b) = ap (λ (c : Bool). eqb x y && c) (words_pointwise a b)
 
 -- words in range that say the same symbols are the same
 same_kind : (k x m y : ℕ) → k < 2 → m < 2 → symbol_of_kind k x ≡ symbol_of_kind m y → (k ≡ m) × (x ≡ y)

@@ -3,10 +3,10 @@ use Rattle.std.proofs.Common.{◌≡◌, ℕ, zero, suc, ◌+◌, ◌<◌, ◌�
 use mathlib.Core.List.{map-append}
 use native.Mathlib.Numerals.{add-two, add-three, add-four, add_five, add_six, add_seven}
 use lib.Seq.{sets, length-sets}
-use Rattle.repr.specs.Sizes.{edge_place}
-use Rattle.repr.specs.Lists.{up_from, below}
-use Rattle.repr.specs.Meaning.{Production}
-use Rattle.repr.proofs.Lists.{below_last, length-map-below}
+use Rattle.lr1_base.specs.repr.Sizes.{edge_place}
+use Rattle.lr1_base.specs.repr.Lists.{up_from, below}
+use Rattle.lr1_base.specs.repr.Meaning.{Production}
+use Rattle.lr1_base.proofs.repr.Lists.{below_last, length-map-below}
 use Rattle.trace_graph.specs.declared.Node.{Node as NodeValue}
 use Rattle.trace_graph.specs.declared.TraceEdge.{TraceEdge as EdgeValue}
 use Rattle.trace_graph.specs.Graph.{Node, at_nonterminal, at_item, TraceEdge}
@@ -14,7 +14,7 @@ use Rattle.trace_graph.specs.Words.{node_words, edge_words, node_of, node_at, ed
 use Rattle.trace_graph.specs.Fits.{node_fits, edge_is_fit}
 use Rattle.trace_graph.specs.Values.{node_is, edge_is, node_value_fits, value_fits, node_read, edge_read, value_words, written, first_edges}
 use Rattle.trace_graph.specs.Insert.{with_one_more}
-use Rattle.trace_graph.proofs.Bools.{and_left, and_right}
+use Rattle.lr1_base.proofs.laws.Bools.{and_left, and_right}
 use Rattle.trace_graph.proofs.Stores.{stored_before, stored_after, stored_at}
 
 -- what a value read says

@@ -2,9 +2,9 @@
 -- Assumes nothing: these are definitions.
 use Rattle.std.specs.Prelude.{ℕ, Bool, true, false, ◌&&◌, List, [], ◌∷◌, ◌++◌, ◌==◌, slice_index_or}
 use Rattle.std.proofs.Math.Option.{Option, none, some}
-use Rattle.repr.specs.Lists.{some?}
-use Rattle.repr.specs.Meaning.{Symbol, is_same_symbol, Item, Production, no_production}
-use Rattle.lr1_core.specs.Items.{Sets, symbol_sets}
+use Rattle.lr1_base.specs.repr.Lists.{some?}
+use Rattle.lr1_base.specs.repr.Meaning.{Symbol, is_same_symbol, Item, Production, no_production}
+use Rattle.lr1_base.specs.item.Items.{Sets, symbol_sets}
 
 -- `TraceGraphNode`
 pub data Node : Type 0 where
@@ -59,3 +59,7 @@ add ps e es = elim (some? (is_same_edge ps e) es) [ true ↦ es | false ↦ es +
 -- a node of the graph
 unfoldable pub is_node_of : Node → List TraceEdge → Bool
 is_node_of v es = some? (λ e. elim (is_same_node v e.source) [ true ↦ true | false ↦ is_same_node v e.target ]) es
+
+-- what stands where a list has no edge
+abbrev pub no_edge : TraceEdge
+no_edge = record { source = at_nonterminal 0; target = at_nonterminal 0; label = record { production = 0; index = 0 } }

@@ -1,11 +1,12 @@
 -- The edges in chains, newest first, as the code keeps them beside a graph, to look for an equal edge. A word for each bucket, which holds 0 or one more than the number of the latest
 -- edge in the bucket; then a word for each edge, which holds the next older edge in the same bucket in the same way. Assumes nothing: these are definitions.
 use Rattle.std.specs.Prelude.{◌≡◌, ℕ, zero, suc, ◌+◌, ◌*◌, ◌%◌, ◌<◌, Bool, true, false, List, [], ◌∷◌, length, ◌==◌, slice_index, slice_index_or}
-use Rattle.repr.specs.Sizes.{nonterminal_limit, index_limit, item_limit, edge_limit}
-use Rattle.repr.specs.Meaning.{Symbol, nonterminal, terminal, Production, no_production}
+use Rattle.lr1_base.specs.repr.Sizes.{nonterminal_limit, index_limit, item_limit, edge_limit}
+use Rattle.lr1_base.specs.repr.Meaning.{Symbol, nonterminal, terminal, Production, no_production}
 use Rattle.trace_graph.specs.Graph.{Node, at_nonterminal, at_item, TraceEdge}
 use Rattle.trace_graph.specs.Words.{edge_at}
 use Rattle.trace_graph.specs.Fits.{item_is_fit}
+use Rattle.lr1_base.specs.hash_index.Chains.{newest, Linked}
 
 -- nodes, which are the nonterminals and then the items
 abbrev pub node_limit : ℕ
@@ -40,16 +41,6 @@ bucket_number ps e =
 -- edge j is in bucket b
 unfoldable pub in_bucket : List Production → List ℕ → ℕ → ℕ → Bool
 in_bucket ps ws b j = bucket_number ps (edge_at ws j) == b
-
--- of the first k edges those that pass a test, newest first
-unfoldable pub newest : (ℕ → Bool) → ℕ → List ℕ
-newest t zero = []
-newest t (suc k) = elim (t k) [ true ↦ k ∷ newest t k | false ↦ newest t k ]
-
--- the edges that are linked from a word on, by the words of the edges from `links` on
-unfoldable pub Linked : List ℕ → ℕ → ℕ → List ℕ → Type 0
-Linked ix links h [] = h ≡ 0
-Linked ix links h (k ∷ ks) = (h ≡ suc k) × Linked ix links (slice_index ix (links + k)) ks
 
 -- a node of a table with n nonterminals and productions ps
 unfoldable pub InRange : ℕ → List Production → Node → Type 0

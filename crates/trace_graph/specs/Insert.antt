@@ -1,9 +1,9 @@
 -- `add_edge` in words: a graph with its index, and what an edge that is added changes.
 -- Assumes nothing: these are definitions.
 use Rattle.std.specs.Prelude.{◌≡◌, ℕ, ◌+◌, ◌<◌, ◌≤◌, Bool, true, false, not, List, length, slice_index, slice_index_or, slice_set}
-use Rattle.repr.specs.Sizes.{edge_limit, graph_room}
-use Rattle.repr.specs.Lists.{some?}
-use Rattle.repr.specs.Meaning.{Production}
+use Rattle.lr1_base.specs.repr.Sizes.{edge_limit, graph_room}
+use Rattle.lr1_base.specs.repr.Lists.{some?}
+use Rattle.lr1_base.specs.repr.Meaning.{Production}
 use Rattle.trace_graph.specs.Graph.{TraceEdge, is_same_edge, add}
 use Rattle.trace_graph.specs.Words.{edge_words, edge_at, edges_in}
 use Rattle.trace_graph.specs.Fits.{edge_is_fit}
@@ -17,10 +17,6 @@ pub record Graphed (n : ℕ) (ps : List Production) (ws ix : List ℕ) (k : ℕ)
   pub few : k ≤ edge_limit
   pub fits : (j : ℕ) → j < k → edge_is_fit n ps ws j ≡ true
   pub index : Indexed ps ws ix k
-
--- edge k put in front of the chain that begins at the word `head` and goes on by the words from `links` on
-unfoldable pub chained : List ℕ → ℕ → ℕ → ℕ → List ℕ
-chained ix links head k = slice_set (slice_set ix (links + k) (slice_index ix head)) head (k + 1)
 
 -- a graph whose count is k, with an edge more
 unfoldable pub with_one_more : List ℕ → ℕ → TraceEdge → List ℕ

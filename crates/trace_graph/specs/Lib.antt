@@ -5,3 +5,5 @@ pub mod Index
 pub mod Values
 pub mod Insert
 pub mod Nodes
+pub use Rattle.lr1_base.specs.hash_index
+pub use Rattle.lr1_base.specs.repr

@@ -2,9 +2,9 @@
 -- Assumes nothing: these are definitions.
 use Rattle.std.specs.Prelude.{ℕ, ◌+◌, ◌<◌, ◌≤◌, Bool, ◌&&◌, List, [], ◌∷◌, map, ◌==◌, slice_index}
 use Rattle.std.proofs.lemmas.List.Edits.{sets}
-use Rattle.repr.specs.Sizes.{edge_place}
-use Rattle.repr.specs.Lists.{below}
-use Rattle.repr.specs.Meaning.{Production}
+use Rattle.lr1_base.specs.repr.Sizes.{edge_place}
+use Rattle.lr1_base.specs.repr.Lists.{below}
+use Rattle.lr1_base.specs.repr.Meaning.{Production}
 use Rattle.trace_graph.specs.declared.Node.{Node as NodeValue}
 use Rattle.trace_graph.specs.declared.TraceEdge.{TraceEdge as EdgeValue}
 use Rattle.trace_graph.specs.Graph.{Node, TraceEdge}

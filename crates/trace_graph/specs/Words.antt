@@ -1,8 +1,8 @@
 -- A trace graph in words: a count, then eight an edge as added (source, target: 0, nonterminal, 0 or 1, production, index; label: an item's production, index).
 -- Assumes nothing: these are definitions.
 use Rattle.std.specs.Prelude.{ℕ, zero, suc, ◌+◌, List, [], ◌∷◌, ◌++◌, map, length, slice_index}
-use Rattle.repr.specs.Sizes.{edge_place}
-use Rattle.repr.specs.Lists.{below, joined}
+use Rattle.lr1_base.specs.repr.Sizes.{edge_place}
+use Rattle.lr1_base.specs.repr.Lists.{below, joined}
 use Rattle.trace_graph.specs.Graph.{Node, at_nonterminal, at_item, TraceEdge}
 
 unfoldable pub node_words : Node → List ℕ

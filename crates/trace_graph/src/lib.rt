@@ -4,20 +4,21 @@
 #![tactic(auto)]
 
 ghost use Rattle.std.specs.Prelude.{OnOk, OnErr, ◌≡◌, ◌+◌, ◌<◌, ◌≤◌, true, ◌&&◌, length, replicate, slice_index};
-ghost use Rattle.repr.specs.Sizes.{nonterminal_limit, terminal_limit, edge_limit, graph_room};
-ghost use Rattle.repr.specs.Lists.{some?};
-ghost use Rattle.repr.specs.Listed.{listed, list_is_fit};
-ghost use Rattle.repr.specs.Packed.{productions_in};
+ghost use Rattle.lr1_base.specs.repr.Sizes.{nonterminal_limit, terminal_limit, edge_limit, graph_room};
+ghost use Rattle.lr1_base.specs.repr.Lists.{some?};
+ghost use Rattle.lr1_base.specs.repr.Listed.{listed, list_is_fit};
+ghost use Rattle.lr1_base.specs.repr.Packed.{productions_in};
 ghost use Rattle.trace_graph.specs.Graph.{empty_graph, label_of, same_sets, is_same_edge};
 ghost use Rattle.trace_graph.specs.Words.{node_at, edge_at};
 ghost use Rattle.trace_graph.specs.Fits.{item_is_fit, edge_is_fit, graph_fits};
 ghost use Rattle.trace_graph.specs.Index.{number_of_node, mixed, bucket_number, node_limit, bucket_limit, index_room};
 ghost use Rattle.trace_graph.specs.Values.{node_is, edge_is, node_value_fits, value_fits, SmallNode, SmallEdge, node_read, edge_read, value_words, written, first_edges};
 ghost use Rattle.trace_graph.specs.Nodes.{graph_node, node_value};
-ghost use Rattle.trace_graph.specs.Insert.{Graphed, chained, Added, Overfull, fresh};
+ghost use Rattle.lr1_base.specs.hash_index.Chains.{chained};
+ghost use Rattle.trace_graph.specs.Insert.{Graphed, Added, Overfull, fresh};
 
-use lr1_core::Item;
-use repr::{Grammar, NonterminalString, ProductionIndex, Refusal, Symbol, word};
+use lr1_base::item::Item;
+use lr1_base::repr::{Grammar, NonterminalString, ProductionIndex, Refusal, Symbol, word};
 
 #[derive(Clone, Copy)]
 pub struct TraceGraph {
@@ -146,7 +147,7 @@ pub struct TraceEdge {
 pub struct Full;
 
 impl From<Full> for Refusal {
-    ghost use Rattle.repr.specs.declared.Refusal.TheVariants.{TooManyEdges};
+    ghost use Rattle.lr1_base.specs.declared.repr.Refusal.TheVariants.{TooManyEdges};
 
     ghost from_gives = { λ _ refusal. refusal ≡ TooManyEdges };
 

@@ -5,14 +5,14 @@ use Prim.Native.Nat.{ℕ, ◌≤◌}
 use lib.Dec.{leb}
 use lib.ListN.{length}
 use borrow.Author.Tests.{leb-true}
-use Rattle.repr.specs.Reply.{Reply, answered, refused}
-use Rattle.repr.specs.Meaning.{Table}
-use Rattle.repr.proofs.Lists.{cases}
+use Rattle.lr1_base.specs.repr.Reply.{Reply, answered, refused}
+use Rattle.lr1_base.specs.repr.Meaning.{Table}
+use Rattle.lr1_base.proofs.repr.Lists.{cases}
 use Rattle.table.specs.Checked.{Checked, Accepted, Refused as NotAccepted}
 use Rattle.table.specs.Decoded.{meaning}
 use Rattle.table.specs.Refusals.{check_of}
-use Rattle.yacc_write.specs.Text.{ascending, text_of}
-use Rattle.yacc_write.specs.Outcome.{Outcome, written_of, write_of}
+use Rattle.yacc_writer.specs.text.Text.{ascending, text_of}
+use Rattle.yacc_writer.specs.text.Outcome.{Outcome, written_of, write_of}
 
 unfoldable Fits : ℕ → Reply ℕ → Type 0
 Fits room (answered n) = n ≤ room

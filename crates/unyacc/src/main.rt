@@ -2,10 +2,10 @@
 // A refusal is said in one line on standard error, and nothing is written. A read or a write that fails is said there too and ends the run.
 #![tactic(auto)]
 
-use pipe::{BYTES, Stop, WORDS, read_table_words, say_end};
+use program_io::streams::write;
+use program_io::table_stream::{BYTES, Stop, WORDS, read_table_words, say_end};
 use std::io;
-use streams::write;
-use yacc_write::TEXT_BYTES;
+use yacc_writer::text::TEXT_BYTES;
 use yacc_writer::write_yacc;
 
 fn write_text<R: io::Input + Print + Eprint>(rt: &R) -> Result<(), Stop> {

@@ -6,18 +6,18 @@ use native.Mathlib.Omega.{arith}
 use lib.Dec.{leb}
 use lib.ListN.{length, take}
 use borrow.Author.Tests.{leb-true}
-use Rattle.repr.specs.Reply.{Reply, answered, refused}
-use Rattle.repr.specs.Meaning.{Table}
-use Rattle.repr.proofs.Lists.{cases}
+use Rattle.lr1_base.specs.repr.Reply.{Reply, answered, refused}
+use Rattle.lr1_base.specs.repr.Meaning.{Table}
+use Rattle.lr1_base.proofs.repr.Lists.{cases}
 use Rattle.table.specs.Checked.{Accepted}
 use Rattle.table.specs.Decoded.{meaning}
 use Rattle.table.specs.Refusals.{check_of}
-use Rattle.spelling.specs.Spelled.{records_of}
-use Rattle.augment.specs.Started.{Outcome as Started, Startable, is_start_needed, full, started_in, started_of}
-use Rattle.augment.specs.declared.Started.{Started as Start}
-use Rattle.yacc_read.specs.Outcome.{read_as, read_of}
-use Rattle.yacc_read.specs.declared.Reading.{Reading}
-use Rattle.yacc_read.proofs.Read.{front_accepted}
+use Rattle.table_rewrite.specs.spelling.Spelled.{records_of}
+use Rattle.table_rewrite.specs.start_production.Started.{Outcome as Started, Startable, is_start_needed, full, started_in, started_of}
+use Rattle.table_rewrite.specs.declared.start_production.Started.{Started as Start}
+use Rattle.yacc_reader.specs.parsed_file.Outcome.{read_as, read_of}
+use Rattle.yacc_reader.specs.declared.parsed_file.Reading.{Reading}
+use Rattle.yacc_reader.proofs.parsed_file.Read.{front_accepted}
 use Rattle.yacc_reader.proofs.Startable.{read_startable, read_fits}
 
 unfoldable Few : ℕ → Reply Start → Type 0

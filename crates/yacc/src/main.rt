@@ -1,19 +1,19 @@
 // Reads a yacc text (Req 09, docs/YACC.md) and writes its grammar as `states` reads it: record count, table words, the start production as one word more. Where the start nonterminal has more than one
-// production or stands in a right side, a nonterminal and a production that leads to it are added behind all others (crate augment).
+// production or stands in a right side, a nonterminal and a production that leads to it are added behind all others (module start_production of table_rewrite).
 // A refusal is said in one line on standard error, and nothing is written; of 20 and 21 a second line says where. A read or a write that fails is said there too and ends the run.
 #![tactic(auto)]
 
 ghost use Rattle.std.specs.Prelude.{◌≡◌, ◌≤◌, length};
 ghost use Rattle.table.specs.Decoded.{meaning};
-ghost use Rattle.augment.specs.Started.{Startable};
+ghost use Rattle.table_rewrite.specs.start_production.Started.{Startable};
 
-use augment::with_start;
-use pipe::{RECORD_WORDS, Stop, say_end, write_records};
-use repr::{NonterminalString, ProductionIndex, Refusal, Symbol};
-use streams::{read, write};
+use lr1_base::repr::{NonterminalString, ProductionIndex, Refusal, Symbol};
+use program_io::streams::{read, write};
+use program_io::table_stream::{RECORD_WORDS, Stop, say_end, write_records};
 use table::AcceptedTable;
+use table_rewrite::start_production::with_start;
 use yacc_reader::{misnamed_at, read_yacc};
-use yacc_stray::{place_of, stray};
+use yacc_syntax::error_position::{place_of, stray};
 
 // The bytes of a text at most.
 const TEXT: usize = 65535;

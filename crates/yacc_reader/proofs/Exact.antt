@@ -6,21 +6,21 @@ use mathlib.Core.List.{List}
 use mathlib.Core.Option.{Option, none, some}
 use lib.ListN.{length}
 use lib.Dec.{leb}
-use Rattle.repr.specs.Reply.{Reply, answered, refused}
-use Rattle.repr.specs.declared.NonterminalString.{NonterminalString}
-use Rattle.repr.proofs.Lists.{cases, clash}
-use Rattle.spelling.specs.Spelled.{productions_at}
-use Rattle.yacc_text.specs.Grammar.{Layout, text_limit}
-use Rattle.yacc_text.specs.Parse.{parse}
-use Rattle.yacc_text.proofs.Exact.{parse_sound, text_parsed}
-use Rattle.yacc_read.specs.Source.{Source}
-use Rattle.yacc_read.specs.Meaning.{table_of}
-use Rattle.yacc_read.specs.Outcome.{Outcome, unchanged, misnamed, too_many, too_long, room, answer_of, fitted_of, counted_of, named_of, source_in, parsed_of, read_of, read_as}
-use Rattle.yacc_read.specs.declared.Reading.{Reading}
-use Rattle.yacc_read.proofs.Said.{read_alternatives}
-use Rattle.yacc_read.proofs.Fits.{read_accepted, read-meaning, read_spelling}
-use Rattle.yacc_read.proofs.Read.{was_read}
-use Rattle.yacc_count.proofs.Limits.{written_of}
+use Rattle.lr1_base.specs.repr.Reply.{Reply, answered, refused}
+use Rattle.lr1_base.specs.declared.repr.NonterminalString.{NonterminalString}
+use Rattle.lr1_base.proofs.repr.Lists.{cases, clash}
+use Rattle.table_rewrite.specs.spelling.Spelled.{productions_at}
+use Rattle.yacc_syntax.specs.text.Grammar.{Layout, text_limit}
+use Rattle.yacc_syntax.specs.text.Parse.{parse}
+use Rattle.yacc_syntax.proofs.text.Exact.{parse_sound, text_parsed}
+use Rattle.yacc_reader.specs.parsed_file.Source.{Source}
+use Rattle.yacc_reader.specs.parsed_file.Meaning.{table_of}
+use Rattle.yacc_reader.specs.parsed_file.Outcome.{Outcome, unchanged, misnamed, too_many, too_long, room, answer_of, fitted_of, counted_of, named_of, source_in, parsed_of, read_of, read_as}
+use Rattle.yacc_reader.specs.declared.parsed_file.Reading.{Reading}
+use Rattle.yacc_reader.proofs.parsed_file.Said.{read_alternatives}
+use Rattle.yacc_reader.proofs.parsed_file.Fits.{read_accepted, read-meaning, read_spelling}
+use Rattle.yacc_reader.proofs.parsed_file.Read.{was_read}
+use Rattle.yacc_reader.proofs.counts.Limits.{written_of}
 use Rattle.yacc_reader.specs.Reading.{is_read, Bytes, Legible, Leaves, Untouched, IsRead}
 use Rattle.yacc_reader.proofs.Laws.{read-counted, counted-passes, good}
 

@@ -8,43 +8,44 @@ use mathlib.Core.Option.{Option, none, some}
 use lib.ListN.{length, get_or, replicate, length-replicate}
 use lib.Dec.{leb}
 use borrow.Author.Tests.{leb-true, le-leb, lt-leb}
-use Rattle.slices.specs.Lent.{in_front}
-use Rattle.repr.specs.Reply.{Reply, answered, refused}
-use Rattle.repr.specs.Meaning.{no_state, TableFits}
-use Rattle.repr.proofs.Lists.{cases, clash, length_mapped}
-use Rattle.repr.proofs.Listed.{and_left, and_right}
-use Rattle.spelling.specs.Spelled.{records_of, spell}
-use Rattle.grammar_records.specs.Target.{PackedAs}
-use Rattle.augment.specs.Started.{started_as, started_in, GrammarOf, Outcome as Alone}
-use Rattle.augment.specs.declared.Started.{Started}
-use Rattle.augment.proofs.Exact.{same_started}
+use Rattle.lr1_base.specs.words.Lent.{in_front}
+use Rattle.lr1_base.specs.repr.Reply.{Reply, answered, refused}
+use Rattle.lr1_base.specs.repr.Meaning.{no_state, TableFits}
+use Rattle.lr1_base.proofs.repr.Lists.{cases, clash, length_mapped}
+use Rattle.table_rewrite.specs.spelling.Spelled.{records_of, spell}
+use Rattle.table_rewrite.specs.grammar_records.Target.{PackedAs}
+use Rattle.table_rewrite.specs.start_production.Started.{started_as, started_in, GrammarOf, Outcome as Alone}
+use Rattle.table_rewrite.specs.declared.start_production.Started.{Started}
+use Rattle.table_rewrite.proofs.start_production.Exact.{same_started}
 use Rattle.std.proofs.Common.{Option as Answer, Some, None}
 use Rattle.std.specs.Option.{unwrap_or, IfSome}
-use Rattle.yacc_lex.specs.Steps.{found_at}
-use Rattle.yacc_misnamed.specs.Fault.{fault_from}
-use Rattle.yacc_misnamed.proofs.Fault.{misnamed-fault, never}
-use Rattle.yacc_text.specs.Forward.{top}
-use Rattle.yacc_text.specs.Places.{placed}
-use Rattle.yacc_text.specs.Grammar.{Id, Layout, text_limit, byte_limit}
-use Rattle.yacc_text.specs.Parse.{parse}
-use Rattle.yacc_text.proofs.Exact.{parse_sound}
-use Rattle.yacc_tokens.specs.Accepted.{is_grammar_text}
-use Rattle.yacc_read.specs.Source.{same_id, Known, number_in, Source}
-use Rattle.yacc_read.specs.Meaning.{production_of, productions_of, table_of, places_of, start_of}
-use Rattle.yacc_read.specs.Outcome.{Outcome, unchanged, misnamed, room, answer_of, fitted_of, counted_of, named_of, source_in, parsed_of, read_of, read_as}
-use Rattle.yacc_read.proofs.Known.{number_here, number_there}
-use Rattle.yacc_read.proofs.Said.{lefts_known, some-alternative}
-use Rattle.yacc_read.proofs.Fits.{Good, count_nonterminals, table_fits}
-use Rattle.yacc_read.proofs.Read.{was_read}
-use Rattle.yacc_count.specs.Counted.{counts_in}
-use Rattle.yacc_count.specs.declared.Counts.{Counts}
-use Rattle.yacc_count.proofs.Limits.{counts_whole, places_long, written_of}
-use Rattle.yacc_limits.specs.Limited.{Meant, limited_of}
-use Rattle.yacc_names.specs.Names.{bucket_limit}
-use Rattle.yacc_enter.specs.declared.Ids.{Ids}
-use Rattle.yacc_enter.specs.Ids.{Named, Fresh}
-use Rattle.yacc_productions.specs.Readable.{Readable}
+use Rattle.yacc_syntax.specs.lexer.Steps.{found_at}
+use Rattle.yacc_reader.specs.name_errors.Fault.{fault_from}
+use Rattle.yacc_reader.proofs.name_errors.Fault.{misnamed-fault, never}
+use Rattle.yacc_syntax.specs.text.Forward.{top}
+use Rattle.yacc_syntax.specs.text.Places.{placed}
+use Rattle.yacc_syntax.specs.text.Grammar.{Id, Layout, text_limit, byte_limit}
+use Rattle.yacc_syntax.specs.text.Parse.{parse}
+use Rattle.yacc_syntax.proofs.text.Exact.{parse_sound}
+use Rattle.yacc_syntax.specs.recognizer.Accepted.{is_grammar_text}
+use Rattle.yacc_reader.specs.parsed_file.Source.{same_id, Known, number_in, Source}
+use Rattle.yacc_reader.specs.parsed_file.Meaning.{production_of, productions_of, table_of, places_of, start_of}
+use Rattle.yacc_reader.specs.parsed_file.Outcome.{Outcome, unchanged, misnamed, room, answer_of, fitted_of, counted_of, named_of, source_in, parsed_of, read_of, read_as}
+use Rattle.yacc_reader.proofs.parsed_file.Known.{number_here, number_there}
+use Rattle.yacc_reader.proofs.parsed_file.Said.{lefts_known, some-alternative}
+use Rattle.yacc_reader.proofs.parsed_file.Fits.{Good, count_nonterminals, table_fits}
+use Rattle.yacc_reader.proofs.parsed_file.Read.{was_read}
+use Rattle.yacc_reader.specs.counts.Counted.{counts_in}
+use Rattle.yacc_reader.specs.declared.counts.Counts.{Counts}
+use Rattle.yacc_reader.proofs.counts.Limits.{counts_whole, places_long, written_of}
+use Rattle.yacc_reader.specs.limits.Limited.{Meant, limited_of}
+use Rattle.yacc_reader.specs.names.Names.{bucket_limit}
+use Rattle.yacc_reader.specs.declared.symbol_table.Ids.{Ids}
+use Rattle.yacc_reader.specs.symbol_table.Ids.{Named, Fresh}
+use Rattle.yacc_reader.specs.productions.Readable.{Readable}
 use Rattle.yacc_reader.specs.Passed.{Passes}
+use Rattle.lr1_base.proofs.laws.Bools.{and_left, and_right}
+use Rattle.lr1_base.proofs.laws.Lists.{zero_at}
 
 -- a text of the grammar has a layout
 module _ (t : List ℕ) where
@@ -148,12 +149,6 @@ pub fault_told : (l : Layout) (r : Answer ℕ) → found_at r ≡ fault_from (so
 unfolding found_at
 fault_told l None e y = let k = misnamed-fault l y in never k.0 (e ∙ k.1)
 fault_told l (Some j) e y = sym e
-
--- `read_in`: arrays of zeros are fresh
-zero_at : (n i : ℕ) → ◌≡◌ {A = ℕ} (get_or (replicate n 0) i 0) 0
-zero_at zero i = refl
-zero_at (suc n) zero = refl
-zero_at (suc n) (suc i) = zero_at n i
 
 pub fresh_zeros : (t : List ℕ) → length t ≤ text_limit → (a b c d e : ℕ) → text_limit ≤ a → text_limit ≤ b → bucket_limit + text_limit ≤ c → text_limit ≤ d → byte_limit + text_limit ≤ e → Fresh t (replicate a 0) (replicate b 0) (replicate c 0) (replicate d 0) (replicate e 0)
 fresh_zeros t h a b c d e ha hb hc hd he =

@@ -1,4 +1,4 @@
--- What is read stands in the words that were lent, has one empty state, and its start is one of its nonterminals: a start production can be added (crate augment). Assumes nothing.
+-- What is read stands in the words that were lent, has one empty state, and its start is one of its nonterminals: a start production can be added (module start_production of table_rewrite). Assumes nothing.
 use Prim.Native.Nat.{ℕ, ◌*◌, ◌/◌, ◌≤◌, ◌<◌}
 use native.Mathlib.Omega.{arith}
 use mathlib.Core.Bool.{Bool, true, false, ◌||◌, not}
@@ -6,26 +6,22 @@ use mathlib.Core.Path.{◌≡◌, refl, sym, ap, ◌∙◌, subst}
 use mathlib.Core.List.{List, [], ◌∷◌}
 use lib.ListN.{length, take}
 use borrow.Author.Tests.{leb-true}
-use Rattle.repr.specs.Lists.{some?}
-use Rattle.repr.specs.Meaning.{All, Table}
-use Rattle.repr.specs.declared.NonterminalString.{NonterminalString}
-use Rattle.repr.proofs.Tests.{some?-cons}
+use Rattle.lr1_base.specs.repr.Lists.{some?}
+use Rattle.lr1_base.specs.repr.Meaning.{All, Table}
+use Rattle.lr1_base.specs.declared.repr.NonterminalString.{NonterminalString}
+use Rattle.lr1_base.proofs.repr.Tests.{some?-cons}
 use Rattle.table.specs.Decoded.{meaning}
-use Rattle.table.proofs.Chains.{and-true}
-use Rattle.spelling.specs.Spelled.{records_of}
-use Rattle.augment.specs.Started.{Startable}
-use Rattle.yacc_text.specs.Grammar.{Id}
-use Rattle.yacc_read.specs.Source.{Known, is_known, Alternative, Source}
-use Rattle.yacc_read.specs.Meaning.{table_of, start_of}
-use Rattle.yacc_read.specs.Outcome.{undefined_use, named_both_ways, undefined_start, misnamed, room, answer_of, source_in, read_of, read_as}
-use Rattle.yacc_read.specs.declared.Reading.{Reading}
-use Rattle.yacc_read.proofs.Known.{number-below}
-use Rattle.yacc_read.proofs.Fits.{Good, count_nonterminals}
-use Rattle.yacc_read.proofs.Read.{same_reading, was_read, front-meaning}
-
-either : (a b : Bool) → (a || b) ≡ false → (a ≡ false) × (b ≡ false)
-either true b e = let o : ◌≡◌ {A = ℕ} 0 1 = cc in absurd (omega arith)
-either false b e = (refl, e)
+use Rattle.table_rewrite.specs.spelling.Spelled.{records_of}
+use Rattle.table_rewrite.specs.start_production.Started.{Startable}
+use Rattle.yacc_syntax.specs.text.Grammar.{Id}
+use Rattle.yacc_reader.specs.parsed_file.Source.{Known, is_known, Alternative, Source}
+use Rattle.yacc_reader.specs.parsed_file.Meaning.{table_of, start_of}
+use Rattle.yacc_reader.specs.parsed_file.Outcome.{undefined_use, named_both_ways, undefined_start, misnamed, room, answer_of, source_in, read_of, read_as}
+use Rattle.yacc_reader.specs.declared.parsed_file.Reading.{Reading}
+use Rattle.yacc_reader.proofs.parsed_file.Known.{number-below}
+use Rattle.yacc_reader.proofs.parsed_file.Fits.{Good, count_nonterminals}
+use Rattle.yacc_reader.proofs.parsed_file.Read.{same_reading, was_read, front-meaning}
+use Rattle.lr1_base.proofs.laws.Bools.{or-none, and-true}
 
 known : (a : Bool) → not a ≡ false → a ≡ true
 known true e = refl
@@ -34,7 +30,7 @@ known false e = let o : ◌≡◌ {A = ℕ} 0 1 = cc in absurd (omega arith)
 by_starts : (ks : List Known) (xs : List Id) → 0 < length ks → some? (λ x. not (is_known ks x)) xs ≡ false → start_of ks xs < length ks
 unfolding start_of
 by_starts ks [] z e = z
-by_starts ks (x ∷ xs) z e = number-below ks x (known (is_known ks x) (either (not (is_known ks x)) (some? (λ y. not (is_known ks y)) xs) (sym (some?-cons (λ y. not (is_known ks y)) x xs) ∙ e)).0)
+by_starts ks (x ∷ xs) z e = number-below ks x (known (is_known ks x) (or-none (not (is_known ks x)) (some? (λ y. not (is_known ks y)) xs) (sym (some?-cons (λ y. not (is_known ks y)) x xs) ∙ e)).0)
 
 some_left : (ks : List Known) (as' : List Alternative) → 1 ≤ length as' → All (λ (a : Alternative). is_known ks a.left ≡ true) as' → 0 < length ks
 unfolding All
@@ -43,7 +39,7 @@ some_left ks (a ∷ as') l h = let n = number-below ks a.left h.0 in omega (arit
 
 start-inside : (S : Source) → Good S → start_of S.nonterminals S.starts < length S.nonterminals
 unfolding misnamed undefined_start
-start-inside S G = by_starts S.nonterminals S.starts (some_left S.nonterminals S.alternatives G.some_one G.lefts) (either (named_both_ways S) (undefined_start S) (either (undefined_use S) _ G.named).1).1
+start-inside S G = by_starts S.nonterminals S.starts (some_left S.nonterminals S.alternatives G.some_one G.lefts) (or-none (named_both_ways S) (undefined_start S) (or-none (undefined_use S) _ G.named).1).1
 
 startable : (S : Source) → Good S → (n m : ℕ) (s : NonterminalString) → answer_of S ≡ read_as n m s → Startable (table_of S) s.0
 unfolding table_of answer_of

@@ -1,4 +1,23 @@
 -- What the contracts cite. Assumes nothing.
+pub mod counts
+pub mod events
+pub mod limits
+pub mod name_errors
+pub mod names
+pub mod numbers
+pub mod parsed_file
+pub mod places
+pub mod productions
+pub mod symbol_table
+pub mod symbols
 pub mod Passed
 pub mod Reading
 pub mod Room
+pub use Rattle.lr1_base.specs.hash_index
+pub use Rattle.lr1_base.specs.repr
+pub use Rattle.lr1_base.specs.words
+pub use Rattle.table_rewrite.specs.grammar_records
+pub use Rattle.table_rewrite.specs.spelling
+pub use Rattle.yacc_syntax.specs.lexer
+pub use Rattle.yacc_syntax.specs.recognizer
+pub use Rattle.yacc_syntax.specs.text

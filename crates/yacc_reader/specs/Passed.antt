@@ -1,8 +1,8 @@
 -- A text that nothing refuses. Assumes nothing: these are definitions.
 use Rattle.std.specs.Prelude.{ℕ, true, false, ◌≡◌, List}
 use Rattle.std.proofs.Math.Option.{none}
-use Rattle.yacc_read.specs.Source.{Source}
-use Rattle.yacc_read.specs.Outcome.{misnamed, too_many, too_long, room}
+use Rattle.yacc_reader.specs.parsed_file.Source.{Source}
+use Rattle.yacc_reader.specs.parsed_file.Outcome.{misnamed, too_many, too_long, room}
 
 -- none of 21, 2, 5 and 17 applies
 pub record Passes (S : Source) (table places : List ℕ) : Type 0 where

@@ -1,17 +1,17 @@
 -- Which texts are read, and what is left of them, at the call (Req 09). Assumes nothing: these are definitions.
 use Rattle.std.specs.Prelude.{ℕ, ◌<◌, Bool, true, false, ◌≡◌, List, map, length, get_or}
-use Rattle.slices.specs.Lent.{in_front}
-use Rattle.repr.specs.Reply.{Reply, answered, refused}
+use Rattle.lr1_base.specs.words.Lent.{in_front}
+use Rattle.lr1_base.specs.repr.Reply.{Reply, answered, refused}
 use Rattle.table.specs.Checked.{Accepted}
 use Rattle.table.specs.Decoded.{meaning}
 use Rattle.table.specs.Refusals.{check_of}
-use Rattle.spelling.specs.Spelled.{spell}
-use Rattle.yacc_text.specs.Grammar.{byte_limit, IsText}
-use Rattle.yacc_read.specs.Source.{Source}
-use Rattle.yacc_read.specs.Files.{bare_of, file_bares}
-use Rattle.yacc_read.specs.Meaning.{table_of, places_of}
-use Rattle.yacc_read.specs.Outcome.{Outcome, answer_of, source_in}
-use Rattle.yacc_read.specs.declared.Reading.{Reading}
+use Rattle.table_rewrite.specs.spelling.Spelled.{spell}
+use Rattle.yacc_syntax.specs.text.Grammar.{byte_limit, IsText}
+use Rattle.yacc_reader.specs.parsed_file.Source.{Source}
+use Rattle.yacc_reader.specs.parsed_file.Files.{bare_of, file_bares}
+use Rattle.yacc_reader.specs.parsed_file.Meaning.{table_of, places_of}
+use Rattle.yacc_reader.specs.parsed_file.Outcome.{Outcome, answer_of, source_in}
+use Rattle.yacc_reader.specs.declared.parsed_file.Reading.{Reading}
 use Rattle.yacc_reader.specs.Passed.{Passes}
 
 unfoldable pub is_read : Reply Reading → Bool

@@ -1,7 +1,7 @@
 -- Words in which no ids are entered yet. Assumes nothing: these are definitions.
 use Rattle.std.specs.Prelude.{ℕ, ◌≤◌, List, length}
-use Rattle.yacc_text.specs.Grammar.{text_limit}
-use Rattle.yacc_enter.specs.Ids.{Fresh}
+use Rattle.yacc_syntax.specs.text.Grammar.{text_limit}
+use Rattle.yacc_reader.specs.symbol_table.Ids.{Fresh}
 use Rattle.yacc_reader.specs.declared.Room.{Room}
 
 -- of any text

@@ -1,32 +1,44 @@
-// Reading a yacc text into a table with one empty state, whole (request 09): what is answered and left in the lent words is `read_of` (crate yacc_read, specs/Outcome).
+// Reading a yacc text into a table with one empty state, whole (request 09): what is answered and left in the lent words is `read_of` (module parsed_file, specs/Outcome).
 
 #![tactic(auto)]
 
+pub mod counts;
+pub mod events;
+pub mod limits;
+pub mod name_errors;
+pub mod names;
+pub mod numbers;
+pub mod parsed_file;
+pub mod places;
+pub mod productions;
+pub mod symbol_table;
+pub mod symbols;
+
 ghost use Rattle.std.specs.Prelude.{IfSome, true, false, ◌≡◌, ◌≤◌, length};
 ghost use Rattle.std.proofs.Math.Option.{some};
-ghost use Rattle.repr.specs.Reply.{reply_of};
-ghost use Rattle.yacc_text.specs.Grammar.{Layout, text_limit};
-ghost use Rattle.yacc_text.specs.Parse.{parse};
-ghost use Rattle.yacc_text.specs.Forward.{top};
-ghost use Rattle.yacc_text.specs.Places.{placed};
-ghost use Rattle.yacc_lex.specs.Steps.{found_at};
-ghost use Rattle.yacc_tokens.specs.Accepted.{is_grammar_text};
-ghost use Rattle.yacc_read.specs.Outcome.{source_in, misnamed, counted_of, named_of, read_of};
-ghost use Rattle.yacc_misnamed.specs.Fault.{fault_from};
+ghost use Rattle.lr1_base.specs.repr.Reply.{reply_of};
+ghost use Rattle.yacc_syntax.specs.text.Grammar.{Layout, text_limit};
+ghost use Rattle.yacc_syntax.specs.text.Parse.{parse};
+ghost use Rattle.yacc_syntax.specs.text.Forward.{top};
+ghost use Rattle.yacc_syntax.specs.text.Places.{placed};
+ghost use Rattle.yacc_syntax.specs.lexer.Steps.{found_at};
+ghost use Rattle.yacc_syntax.specs.recognizer.Accepted.{is_grammar_text};
+ghost use Rattle.yacc_reader.specs.parsed_file.Outcome.{source_in, misnamed, counted_of, named_of, read_of};
+ghost use Rattle.yacc_reader.specs.name_errors.Fault.{fault_from};
 ghost use Rattle.yacc_reader.specs.Passed.{Passes};
 
-use augment::write_started;
-use repr::{Grammar, NonterminalString, ProductionIndex, Refusal};
+use crate::counts::count;
+use crate::limits::check_counts;
+use crate::name_errors::{fault_place, is_misnamed};
+use crate::parsed_file::Reading;
+use crate::places::{start_of, write_places};
+use crate::productions::pack;
+use crate::symbol_table::{Ids, SymbolTable, Words};
+use lr1_base::repr::{Grammar, NonterminalString, ProductionIndex, Refusal};
 use table::Counts;
-use yacc_count::count;
-use yacc_enter::{Ids, SymbolTable, Words};
-use yacc_limits::check_counts;
-use yacc_misnamed::{fault_place, is_misnamed};
-use yacc_places::{start_of, write_places};
-use yacc_productions::pack;
-use yacc_read::Reading;
-use yacc_text::is_short;
-use yacc_tokens::is_grammar;
+use table_rewrite::start_production::write_started;
+use yacc_syntax::recognizer::is_grammar;
+use yacc_syntax::text::is_short;
 
 // Writes the table and the places of a text that nothing refuses, whose ids are entered. Here and below the two lists are lent, and handed on as they came: a struct of both would be two `&mut` more, made anew at each step.
 fn write_read(
@@ -118,7 +130,7 @@ impl Room {
         }
     }
 
-    // The ids of a text of the grammar, entered. (`read_yacc` and `misnamed_at` test what is asked of the text here and below; that it is short is no field of the table, as crate yacc_places says.)
+    // The ids of a text of the grammar, entered. (`read_yacc` and `misnamed_at` test what is asked of the text here and below; that it is short is no field of the table, as module places says.)
     fn enter<'a>(&'a mut self, text: &'a [u8]) -> SymbolTable<'a>
         requires fresh { IsFresh self.old }
         requires text { (length text.now ≤ text_limit) × (is_grammar_text text.now ≡ true) }

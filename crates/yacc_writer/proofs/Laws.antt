@@ -9,13 +9,13 @@ use lib.Seq.{sets, sets-eq, set_out, take-suc}
 use native.Mathlib.Numerals.{add-one}
 use Rattle.std.proofs.lemmas.List.{take_all}
 use borrow.Author.Tests.{lt-ltb, le-ltb}
-use Rattle.slices.specs.Lent.{in_front}
-use Rattle.repr.specs.Sizes.{production_place}
-use Rattle.repr.specs.Lists.{joined}
-use Rattle.repr.specs.Meaning.{nonterminal, terminal, Production}
-use Rattle.repr.specs.Listed.{listed}
-use Rattle.repr.specs.Packed.{symbol_words, production_in}
-use Rattle.numerals.specs.Numeral.{numeral_by, numeral}
+use Rattle.lr1_base.specs.words.Lent.{in_front}
+use Rattle.lr1_base.specs.repr.Sizes.{production_place}
+use Rattle.lr1_base.specs.repr.Lists.{joined}
+use Rattle.lr1_base.specs.repr.Meaning.{nonterminal, terminal, Production}
+use Rattle.lr1_base.specs.repr.Listed.{listed}
+use Rattle.lr1_base.specs.repr.Packed.{symbol_words, production_in}
+use Rattle.lr1_base.specs.numerals.Numeral.{numeral_by, numeral}
 use Rattle.yacc_writer.specs.Wrote.{Wrote, name_bytes, terminal_bytes, token_bytes, production_bytes, file_bytes}
 
 -- a byte, where there is no room

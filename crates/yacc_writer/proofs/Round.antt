@@ -8,28 +8,28 @@ use lib.Dec.{leb}
 use lib.ListN.{length, get_or, take, drop, length-append}
 use lib.Seq.{take_at}
 use borrow.Author.Tests.{le-leb}
-use Rattle.slices.specs.Lent.{in_front}
-use Rattle.repr.specs.Lists.{up_from, below, keep}
-use Rattle.repr.specs.Reply.{Reply, answered, refused}
-use Rattle.repr.specs.Meaning.{Production, Table, TableFits}
-use Rattle.repr.proofs.Lists.{cases, clash, length_mapped}
+use Rattle.lr1_base.specs.words.Lent.{in_front}
+use Rattle.lr1_base.specs.repr.Lists.{up_from, below, keep}
+use Rattle.lr1_base.specs.repr.Reply.{Reply, answered, refused}
+use Rattle.lr1_base.specs.repr.Meaning.{Production, Table, TableFits}
+use Rattle.lr1_base.proofs.repr.Lists.{cases, clash, length_mapped}
 use Rattle.table.specs.Checked.{Checked, Accepted, Refused as No}
 use Rattle.table.specs.Decoded.{meaning}
 use Rattle.table.specs.Refusals.{check_of}
 use Rattle.table.proofs.Decoding.{fits}
-use Rattle.spelling.specs.Spelled.{states_at, productions_at, symbols_at, items_place, edges_at, records_of, size_of, symbol_lists, spell, owns, Ordered}
-use Rattle.spelling.proofs.Places.{spell-length}
-use Rattle.spelling.proofs.Rising.{meaning_ordered}
-use Rattle.yacc_read.specs.Source.{Known, Source}
-use Rattle.yacc_read.specs.Meaning.{table_of, places_of, start_of}
-use Rattle.yacc_read.specs.Outcome.{room, answer_of, read_as, read_of, source_in}
-use Rattle.yacc_read.specs.declared.Reading.{Reading}
-use Rattle.yacc_read.proofs.Fits.{Good, read_accepted, read-meaning}
-use Rattle.yacc_write.specs.Text.{ascending, pieces_of, text_of}
-use Rattle.yacc_write.specs.Outcome.{Outcome, written_of, write_of}
-use Rattle.yacc_write.proofs.Again.{nonterminals-back, terminals-back, owners_back, symbols-back, start_back, written_again}
-use Rattle.yacc_write.proofs.Back.{chains_back}
-use Rattle.yacc_write.proofs.Reread.{reread_good, written_read}
+use Rattle.table_rewrite.specs.spelling.Spelled.{states_at, productions_at, symbols_at, items_place, edges_at, records_of, size_of, symbol_lists, spell, owns, Ordered}
+use Rattle.table_rewrite.proofs.spelling.Places.{spell-length}
+use Rattle.table_rewrite.proofs.spelling.Rising.{meaning_ordered}
+use Rattle.yacc_reader.specs.parsed_file.Source.{Known, Source}
+use Rattle.yacc_reader.specs.parsed_file.Meaning.{table_of, places_of, start_of}
+use Rattle.yacc_reader.specs.parsed_file.Outcome.{room, answer_of, read_as, read_of, source_in}
+use Rattle.yacc_reader.specs.declared.parsed_file.Reading.{Reading}
+use Rattle.yacc_reader.proofs.parsed_file.Fits.{Good, read_accepted, read-meaning}
+use Rattle.yacc_writer.specs.text.Text.{ascending, pieces_of, text_of}
+use Rattle.yacc_writer.specs.text.Outcome.{Outcome, written_of, write_of}
+use Rattle.yacc_writer.proofs.text.Again.{nonterminals-back, terminals-back, owners_back, symbols-back, start_back, written_again, table_terminals}
+use Rattle.yacc_writer.proofs.text.Back.{chains_back}
+use Rattle.yacc_writer.proofs.text.Reread.{reread_good, written_read}
 use Rattle.yacc_writer.specs.Round.{records_again, places_again, RoundTrip}
 use Rattle.yacc_writer.proofs.Turns.{write-refused, write_accepted, written_disordered, written-full, written_roomy}
 
@@ -90,10 +90,6 @@ none_owned T O h e = O.lists 0 h ∙ ap (λ (l : List Production). keep (owns T 
 records_of_lem : (Q : Source) → records_of (table_of Q) ≡ 2 + length (table_of Q).nonterminals + length (table_of Q).productions + size_of (symbol_lists (table_of Q))
 unfolding records_of edges_at items_place symbols_at productions_at states_at size_of table_of
 records_of_lem Q = omega arith
-
-tokens-back : (Q : Source) → (table_of Q).terminals ≡ length Q.terminals
-unfolding table_of
-tokens-back Q = refl
 
 written_same : (U T : Table) (text : List ℕ) → U.nonterminals ≡ T.nonterminals → text_of U ≡ text_of T → written_of U text ≡ written_of T text
 written_same U T text a b =
@@ -183,7 +179,7 @@ module _ (t text bs : List ℕ) (n : ℕ) (table places : List ℕ) (D : Done t 
           ∙ written_read K p ps F e O A table places roomy
           ∙ ap (λ (a : Reply Reading). record { answer = a; table = in_front (spell U) table; places = in_front (places_of Q) places }) answer_is;
       accepted = read_accepted Q good;
-      terminals = ap (λ (X : Table). X.terminals) meant ∙ tokens-back Q ∙ terminals-back K p ps F e O A;
+      terminals = ap (λ (X : Table). X.terminals) meant ∙ table_terminals Q ∙ terminals-back K p ps F e O A;
       chains = ap (λ (X : Table). X.nonterminals) meant ∙ chains;
       owners = ap (λ (X : Table). map (λ q. q.nonterminal) X.productions) meant ∙ owners_back K p ps F e O A;
       symbols = ap (λ (X : Table). map (λ q. q.symbols) X.productions) meant ∙ symbols-back K p ps F e O A;

@@ -2,12 +2,12 @@
 use Prim.Native.Nat.{ℕ, zero, suc}
 use mathlib.Core.Path.{◌≡◌, refl, sym, ap, ◌∙◌}
 use mathlib.Core.List.{List, [], ◌∷◌, ◌++◌, map, append_assoc, append-nil}
-use Rattle.numerals.specs.Numeral.{numeral}
-use Rattle.repr.specs.Lists.{up_from, below, joined}
-use Rattle.repr.specs.Meaning.{Symbol, nonterminal, terminal, Production, Table}
-use Rattle.yacc_text.specs.Grammar.{Id, named, quoted, Token, ident, token, start, mark, colon, bar, semi, Piece, white, comment, piece, spell_id, spell_token, spell_piece, spell_all}
-use Rattle.yacc_write.specs.Text.{name_of, name_token, token_line, production_line, lines, spaced, line, pieces_of, text_of}
-use Rattle.yacc_write.proofs.Layouts.{joined_more}
+use Rattle.lr1_base.specs.numerals.Numeral.{numeral}
+use Rattle.lr1_base.specs.repr.Lists.{up_from, below, joined}
+use Rattle.lr1_base.specs.repr.Meaning.{Symbol, nonterminal, terminal, Production, Table}
+use Rattle.yacc_syntax.specs.text.Grammar.{Id, named, quoted, Token, ident, token, start, mark, colon, bar, semi, Piece, white, comment, piece, spell_id, spell_token, spell_piece, spell_all}
+use Rattle.yacc_writer.specs.text.Text.{name_of, name_token, token_line, production_line, lines, spaced, line, pieces_of, text_of}
+use Rattle.yacc_writer.proofs.text.Layouts.{joined_more}
 use Rattle.yacc_writer.specs.Wrote.{name_bytes, terminal_bytes, token_bytes, production_bytes, file_bytes}
 
 -- what stands behind a piece stays behind

@@ -10,37 +10,27 @@ use lib.Dec.{leb}
 use lib.ListN.{length, get_or, drop, drop_of_length-le}
 use lib.Seq.{drop-cons, length-sets}
 use borrow.Author.Tests.{le-leb, lt-leb}
-use Rattle.slices.specs.Lent.{in_front}
-use Rattle.repr.specs.Reply.{answered, refused}
-use Rattle.repr.specs.Sizes.{nonterminal_limit, terminal_limit, symbol_limit, production_place}
-use Rattle.repr.specs.Lists.{up_from, below, joined}
-use Rattle.repr.specs.Meaning.{Symbol, terminal, Production, Table}
-use Rattle.repr.specs.Listed.{listed, list_is_fit}
-use Rattle.repr.specs.Packed.{Packed, symbol_words, production_in, productions_in}
-use Rattle.repr.proofs.Packed.{words_long}
+use Rattle.lr1_base.specs.words.Lent.{in_front}
+use Rattle.lr1_base.specs.repr.Reply.{answered, refused}
+use Rattle.lr1_base.specs.repr.Sizes.{nonterminal_limit, terminal_limit, symbol_limit, production_place}
+use Rattle.lr1_base.specs.repr.Lists.{up_from, below, joined}
+use Rattle.lr1_base.specs.repr.Meaning.{Symbol, terminal, Production, Table}
+use Rattle.lr1_base.specs.repr.Listed.{listed, list_is_fit}
+use Rattle.lr1_base.specs.repr.Packed.{Packed, symbol_words, production_in, productions_in}
+use Rattle.lr1_base.proofs.repr.Packed.{words_long}
 use Rattle.table.specs.Checked.{Accepted, Refused as No}
 use Rattle.table.specs.Decoded.{meaning, productions_from}
 use Rattle.table.specs.Refusals.{check_of}
 use Rattle.table.proofs.Written.{productions_end as no-productions}
-use Rattle.yacc_write.specs.Text.{ascending, text_of}
-use Rattle.yacc_write.specs.Outcome.{written_of, write_of}
+use Rattle.yacc_writer.specs.text.Text.{ascending, text_of}
+use Rattle.yacc_writer.specs.text.Outcome.{written_of, write_of}
 use Rattle.yacc_writer.specs.Wrote.{Wrote, name_bytes, terminal_bytes, production_bytes, file_bytes}
 use Rattle.yacc_writer.proofs.Laws.{Left, left_all_lem, left_less, left-none, wrote_as, wrote-front}
 use Rattle.yacc_writer.proofs.Texts.{text_bytes}
+use Rattle.lr1_base.proofs.repr.Lists.{up_from_more, up_from_end}
 
 pub left_long : {a b : List ℕ} {at m : ℕ} {whole rest : List ℕ} → Left a at whole b m rest → length b ≡ length a
 left_long {a} {b} {at} {m} {whole} {rest} L = sym (length-sets b m rest) ∙ ap length L.is ∙ length-sets a at whole
-
--- numbers from p up to n, one less
-up_more : (p n : ℕ) → p < n → up_from p (n - p) ≡ p ∷ up_from (p + 1) (n - (p + 1))
-unfolding up_from
-up_more p n h =
-    let e : n - p ≡ suc (n - (p + 1)) = omega arith in
-    ap (up_from p) e ∙ ap (λ (k : ℕ). p ∷ up_from k (n - (p + 1))) (sym (add-one p))
-
-up_none : (p n : ℕ) → n ≤ p → up_from p (n - p) ≡ []
-unfolding up_from
-up_none p n h = let e : n - p ≡ 0 = omega arith in ap (up_from p) e
 
 -- a loop that writes f of each number below n, w bytes at most each (`put_terminals`, `put_productions`)
 pub record Numbered (f : ℕ → List ℕ) (w : ℕ) (text₀ : List ℕ) (at n : ℕ) (text : List ℕ) (place i : ℕ) : Type 0 where
@@ -65,7 +55,7 @@ unfolding joined
 numbered_more {f} {w} {text₀} {at} {n} {text} {text'} {place} {place'} {i} I h W b = record {
   few = omega arith;
   near = subst (λ (k : ℕ). place' ≤ at + k) (sym (ap (λ (k : ℕ). w * k) (add-one i) ∙ mul-suc w i)) (near_more at (w * i) w place place' I.near b);
-  left = left_less I.left (ap (joined f) (up_more i n h)) W;
+  left = left_less I.left (ap (joined f) (up_from_more i n h)) W;
 }
 
 pub numbered_end : {f : ℕ → List ℕ} {w : ℕ} {text₀ : List ℕ} {at n : ℕ} {text : List ℕ} {place i : ℕ} → Numbered f w text₀ at n text place i → n ≤ i
@@ -74,7 +64,7 @@ unfolding joined
 numbered_end {f} {w} {text₀} {at} {n} {text} {place} {i} I h =
     let s = I.few in
     let e : i ≡ n = omega arith in
-    (left-none I.left (ap (joined f) (up_none i n h)), subst (λ (k : ℕ). place ≤ at + w * k) e I.near)
+    (left-none I.left (ap (joined f) (up_from_end i n h)), subst (λ (k : ℕ). place ≤ at + w * k) e I.near)
 
 pub terminals_end : {text₀ : List ℕ} {at n : ℕ} {text : List ℕ} {place i : ℕ} → Numbered (λ t. name_bytes (terminal t)) 4 text₀ at n text place i → n ≤ i
     → Wrote text₀ at (terminal_bytes n) text place × (place ≤ at + 4 * n)

@@ -1,3 +1,7 @@
 -- What the contracts cite. Assumes nothing.
+pub mod text
 pub mod Wrote
 pub mod Round
+pub use Rattle.lr1_base.specs.numerals
+pub use Rattle.lr1_base.specs.repr
+pub use Rattle.table.specs.Decoded

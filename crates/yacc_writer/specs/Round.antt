@@ -1,13 +1,13 @@
 -- A written text read back, at the calls (Req 09, W4). Assumes nothing: these are definitions.
 use Rattle.std.specs.Prelude.{ℕ, ◌+◌, ◌*◌, ◌≡◌, List, map, length}
-use Rattle.slices.specs.Lent.{in_front}
-use Rattle.repr.specs.Meaning.{Table}
+use Rattle.lr1_base.specs.words.Lent.{in_front}
+use Rattle.lr1_base.specs.repr.Meaning.{Table}
 use Rattle.table.specs.Checked.{Accepted}
 use Rattle.table.specs.Decoded.{meaning}
 use Rattle.table.specs.Refusals.{check_of}
-use Rattle.spelling.specs.Spelled.{size_of, symbol_lists}
-use Rattle.yacc_read.specs.Outcome.{read_as, read_of}
-use Rattle.yacc_write.specs.Outcome.{write_of}
+use Rattle.table_rewrite.specs.spelling.Spelled.{size_of, symbol_lists}
+use Rattle.yacc_reader.specs.parsed_file.Outcome.{read_as, read_of}
+use Rattle.yacc_writer.specs.text.Outcome.{write_of}
 
 -- the records and the places that are left when the text of a table is read
 unfoldable pub records_again : Table → ℕ

@@ -1,9 +1,9 @@
 -- Bytes written from a place on as far as there is room, and the bytes of a written text line by line (`text_bytes` of proofs/Texts: they are those of yacc_write). Assumes nothing: these are definitions.
 use Rattle.std.specs.Prelude.{ℕ, zero, suc, ◌+◌, ◌≡◌, List, [], ◌∷◌, ◌++◌, length}
 use Rattle.std.proofs.lemmas.List.Edits.{sets}
-use Rattle.numerals.specs.Numeral.{numeral}
-use Rattle.repr.specs.Lists.{below, joined}
-use Rattle.repr.specs.Meaning.{Symbol, nonterminal, terminal, Production}
+use Rattle.lr1_base.specs.numerals.Numeral.{numeral}
+use Rattle.lr1_base.specs.repr.Lists.{below, joined}
+use Rattle.lr1_base.specs.repr.Meaning.{Symbol, nonterminal, terminal, Production}
 
 -- far from wrapping
 abbrev pub place_limit : ℕ

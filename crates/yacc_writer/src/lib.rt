@@ -1,24 +1,26 @@
-// Writing a table's grammar as a yacc text (request 09), in code. Bytes are put as far as there is room (specs/Wrote), so that the functions that write also count. Each takes the text and a place and answers the place behind (crate conflict_words says why there is no writer).
+// Writing a table's grammar as a yacc text (request 09), in code. Bytes are put as far as there is room (specs/Wrote), so that the functions that write also count. Each takes the text and a place and answers the place behind (module conflict_words of lr1_tables says why there is no writer).
 
 #![tactic(auto)]
 
+pub mod text;
+
 ghost use Rattle.std.specs.Prelude.{◌≡◌, true, ◌∷◌, [], ◌+◌, ◌*◌, ◌≤◌, ◌<◌, length};
-ghost use Rattle.numerals.specs.Numeral.{numeral};
-ghost use Rattle.repr.specs.Reply.{reply_of};
-ghost use Rattle.repr.specs.Sizes.{nonterminal_limit, terminal_limit, symbol_limit};
-ghost use Rattle.repr.specs.Lists.{joined};
-ghost use Rattle.repr.specs.Listed.{listed, list_is_fit};
-ghost use Rattle.repr.specs.Symbols.{meant, IsInRange};
-ghost use Rattle.repr.specs.Packed.{production_in, productions_in};
+ghost use Rattle.lr1_base.specs.numerals.Numeral.{numeral};
+ghost use Rattle.lr1_base.specs.repr.Reply.{reply_of};
+ghost use Rattle.lr1_base.specs.repr.Sizes.{nonterminal_limit, terminal_limit, symbol_limit};
+ghost use Rattle.lr1_base.specs.repr.Lists.{joined};
+ghost use Rattle.lr1_base.specs.repr.Listed.{listed, list_is_fit};
+ghost use Rattle.lr1_base.specs.repr.Symbols.{meant, IsInRange};
+ghost use Rattle.lr1_base.specs.repr.Packed.{production_in, productions_in};
 ghost use Rattle.table.specs.Decoded.{meaning};
-ghost use Rattle.yacc_write.specs.Text.{ascending};
-ghost use Rattle.yacc_write.specs.Outcome.{written_of, write_of};
+ghost use Rattle.yacc_writer.specs.text.Text.{ascending};
+ghost use Rattle.yacc_writer.specs.text.Outcome.{written_of, write_of};
 ghost use Rattle.yacc_writer.specs.Wrote.{place_limit, Wrote, name_bytes, token_bytes, production_bytes, file_bytes, terminal_bytes};
 
-use repr::{Grammar, ProductionIndex, Refusal, Symbol, SymbolIter};
+use lr1_base::repr::{Grammar, ProductionIndex, Refusal, Symbol, SymbolIter};
 use table::AcceptedTable;
 
-// A byte; the place behind it. (By `get_mut`, tried: what the proof learns of the text is its length alone, as in crate yacc_places.)
+// A byte; the place behind it. (By `get_mut`, tried: what the proof learns of the text is its length alone, as in module places of yacc_reader.)
 fn put(text: &mut [u8], at: usize, byte: u8) -> usize
     requires { at < place_limit }
     ensures { Wrote text.old at (byte ∷ []) text.new result }
@@ -41,7 +43,7 @@ fn put_all(text: &mut [u8], at: usize, bytes: &[u8]) -> usize
     place
 }
 
-// A number of one or two digits: no name has a greater one. (By hand: for two digits at most the kit's `itoa` would be a buffer, a copy out of it, and its law, which stands in crate lines, carried below.)
+// A number of one or two digits: no name has a greater one. (By hand: for two digits at most the kit's `itoa` would be a buffer, a copy out of it, and its law, which stands in module conflict_lines of output_text, carried below.)
 fn put_number(text: &mut [u8], at: usize, n: usize) -> usize
     requires { (at + 1 < place_limit) × (n < 100) }
     ensures { Wrote text.old at (numeral n) text.new result × (result ≤ at + 2) }

@@ -1,6 +1,6 @@
-//! The requests of the stored sample answered, as the program `replay` must
+//! The requests of the stored sample answered, as tests/c/replay.c must
 //! print them: a side's answers, and document 01's rules of lent words, count
-//! and openness, which are read here. crates/replay/src/main.rt says what a
+//! and openness, which are read here. tests/c/replay.c says what a
 //! request and an answer hold, op by op.
 
 use crate::rewrites;
@@ -11,7 +11,7 @@ use crate::yacc;
 use std::collections::BTreeSet;
 use std::rc::Rc;
 
-/// The words that the program `replay` has.
+/// The words that tests/c/replay.c has.
 pub const GRAPH: usize = 8_200;
 pub const SCRATCH: usize = 32_008;
 pub const BUFFER: usize = 2_000;

@@ -367,7 +367,7 @@ pub fn built(seed: u64) -> Option<Case> {
 
 // The stored sample.
 
-/// As much as the program `replay` has.
+/// As much as tests/c/replay.c has.
 const LENT: [usize; 3] = [BUILDING, REWRITTEN, CONFLICTS];
 
 /// Op 20.

@@ -18,7 +18,7 @@ oracle generate KIND SEED COUNT [SIDE]  cases as lines, with the side's answers
 oracle compare KIND SEED COUNT [SIDE ..] [only=VERB,..]
                                         asks all sides, or those named, the same (KIND may be all)
 oracle sample REQUESTS ANSWERS [KIND SEED COUNT]
-                                        writes the stored sample of the program replay, or one of some seeds
+                                        writes the stored sample, or one of some seeds
 oracle bison SEED COUNT [SIDE ..]       request 01 against bison's canonical LR(1) automata, so many grammars
 oracle yacc SEED COUNT                  request 09 against byacc and bison, so many files
 oracle costs [PART ..]                  times of the Rust and the port, if linked, in markdown: the tables of docs/COSTS.md
@@ -157,7 +157,7 @@ fn marked(side: &str) -> bool {
         ("choose 3 0 0 0 / 0", "= 0 1 0 2 1 0"),
         ("list 1 0 / - / 0", "= 15 0"),
     ];
-    // Table C: those that crates/lihvemur/proofs/Marked states.
+    // Table C: those that crates/lihvemur_c/proofs/Marked states.
     let beside: [(&str, &str); 9] = [
         (
             "shift 1 2 0",
@@ -313,7 +313,7 @@ fn yacc(seed: u64, count: u64) -> bool {
     score.end()
 }
 
-/// The stored sample of the program `replay`: its input and its output.
+/// The stored sample: requests and answers.
 fn sample(requests: &str, answers: &str, made: &oracle::sample::Sample) -> bool {
     let bytes: Vec<u8> = made.requests.iter().flat_map(|w| w.to_le_bytes()).collect();
     print!("{}", made.seeds);

@@ -1,4 +1,4 @@
-//! The stored sample: requests in words for the program `replay`, and the
+//! The stored sample: requests in words for tests/c/replay.c, and the
 //! answers, one a line. The same on every run.
 
 use crate::answers::{Answers, set_words, text_request};

@@ -715,7 +715,7 @@ pub fn case(seed: u64) -> Option<Case> {
 
 // The stored sample.
 
-/// As much as the program `replay` has.
+/// As much as tests/c/replay.c has.
 const LENT: [usize; 2] = [YACC_TABLE, YACC_PLACES];
 
 fn ask(m: &mut Maker, text: &[u8], lent: [usize; 2]) {

@@ -1,5 +1,5 @@
 use Rattle.std.proofs.Common.{ap}
-use Rattle.repr.specs.Reply.{reply_of}
+use Rattle.lr1_base.specs.repr.Reply.{reply_of}
 use mathlib.Core.Path.{sym}
 use lib.Seq.{length-take-le}
 use Rattle.compact.proofs.Laws.{few_left}

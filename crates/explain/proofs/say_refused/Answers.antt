@@ -1,6 +1,6 @@
 use mathlib.Core.Path.{sym}
 use lib.Seq.{length-take-le}
-use Rattle.lines.proofs.Laws.{put-within}
+use Rattle.output_text.proofs.conflict_lines.Laws.{put-within}
 use native.Mathlib.Omega.{arith}
 use Rattle.explain.proofs.say_refused.Goals as goal
 

@@ -1,7 +1,7 @@
 use Rattle.std.proofs.Common.{sym, ap, ◌∙◌, List, ℕ}
 use Rattle.std.proofs.lemmas.Result.{err_from_is_err_and}
 use Rattle.table.specs.Decoded.{meaning}
-use Rattle.enumerator.specs.Advance.{advance_in}
+use Rattle.enumerator.specs.trials.Advance.{advance_in}
 use Rattle.listing.proofs.Entered.{step-refused, step_accepted}
 use Rattle.listing.proofs.advance.Goals as goal
 

@@ -1,8 +1,8 @@
 use mathlib.Core.Path.{◌≡◌, refl, ◌∙◌}
-use Rattle.repr.specs.Reply.{answered}
-use Rattle.enumerator.specs.declared.Advanced.{Advanced}
-use Rattle.enumerator.specs.declared.Advanced.TheVariants.{Example, End}
-use Rattle.enumerator.specs.Advance.{number_of_advanced}
+use Rattle.lr1_base.specs.repr.Reply.{answered}
+use Rattle.enumerator.specs.declared.trials.Advanced.{Advanced}
+use Rattle.enumerator.specs.declared.trials.Advanced.TheVariants.{Example, End}
+use Rattle.enumerator.specs.trials.Advance.{number_of_advanced}
 use Rattle.listing.specs.CallList.{number_of_answer}
 use Rattle.listing.proofs.answer_number.Goals as goal
 

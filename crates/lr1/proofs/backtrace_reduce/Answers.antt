@@ -1,4 +1,4 @@
-use Rattle.tracer.specs.Outcome.{reduce_of}
+use Rattle.trace.specs.Outcome.{reduce_of}
 use Rattle.lr1.proofs.backtrace_reduce.Goals as goal
 
 pub returns : goal.returns

@@ -1,4 +1,4 @@
-use Rattle.tracer.specs.Outcome.{shift_of}
+use Rattle.trace.specs.Outcome.{shift_of}
 use Rattle.lr1.proofs.backtrace_shift.Goals as goal
 
 pub returns : goal.returns

@@ -1,5 +1,5 @@
 use mathlib.Core.Path.{sym, ap}
-use Rattle.repr.specs.Reply.{reply_of}
+use Rattle.lr1_base.specs.repr.Reply.{reply_of}
 use lib.Seq.{length-take-le}
 use native.Mathlib.Omega.{arith}
 use Rattle.states.proofs.Laws.{room-kept}

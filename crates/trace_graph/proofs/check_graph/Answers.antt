@@ -1,6 +1,6 @@
 use Rattle.std.proofs.Common.{ℕ, length, sym, ap, ◌∙◌, true≢false, arith}
 use lib.ListN.{length-replicate}
-use Rattle.repr.specs.Packed.{productions_in}
+use Rattle.lr1_base.specs.repr.Packed.{productions_in}
 use Rattle.trace_graph.proofs.Checks.{checked_first, checked_more, checked_all, graph_many, graph_bad}
 use Rattle.trace_graph.specs.Index.{index_room}
 use Rattle.trace_graph.proofs.check_graph.Goals as goal

@@ -1,5 +1,5 @@
 use Rattle.std.proofs.Common.{◌≤◌}
-use Rattle.repr.specs.Packed.{productions_in}
+use Rattle.lr1_base.specs.repr.Packed.{productions_in}
 use Rattle.trace_graph.proofs.Checks.{Checked}
 use Rattle.trace_graph.proofs.check_graph.Given as goal
 

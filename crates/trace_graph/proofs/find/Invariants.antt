@@ -1,4 +1,4 @@
-use Rattle.repr.specs.Packed.{productions_in}
+use Rattle.lr1_base.specs.repr.Packed.{productions_in}
 use Rattle.trace_graph.specs.Graph.{is_same_edge}
 use Rattle.trace_graph.specs.Index.{in_bucket, bucket_limit}
 use Rattle.trace_graph.specs.Values.{edge_is}

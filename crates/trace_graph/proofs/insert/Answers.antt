@@ -1,5 +1,5 @@
 use Rattle.std.proofs.Common.{ℕ, ◌+◌, List, get_or, set, ap}
-use Rattle.repr.specs.Packed.{productions_in}
+use Rattle.lr1_base.specs.repr.Packed.{productions_in}
 use Rattle.trace_graph.proofs.Fits.{value_small}
 use Rattle.trace_graph.proofs.Inserts.{Adding, graphed_count, insert_small, insert_there, insert-full, insert_low, insert-more}
 use Rattle.trace_graph.proofs.insert.Goals as goal

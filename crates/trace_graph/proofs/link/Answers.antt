@@ -1,5 +1,5 @@
 use Rattle.std.proofs.Common.{refl, arith, length-set}
-use Rattle.trace_graph.specs.Insert.{chained}
+use Rattle.lr1_base.specs.hash_index.Chains.{chained}
 use Rattle.trace_graph.proofs.link.Goals as goal
 
 pub bounds-ix-bucket-2 : goal.bounds-ix-bucket-2

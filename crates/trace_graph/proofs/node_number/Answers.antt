@@ -1,5 +1,5 @@
 use Rattle.std.proofs.Common.{ℕ, ◌+◌, ap, ◌∙◌, arith}
-use Rattle.repr.specs.Sizes.{nonterminal_limit}
+use Rattle.lr1_base.specs.repr.Sizes.{nonterminal_limit}
 use Rattle.trace_graph.proofs.Fits.{number-nonterminal, number-item}
 use Rattle.trace_graph.proofs.node_number.Goals as goal
 

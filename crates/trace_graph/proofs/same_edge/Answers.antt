@@ -1,6 +1,6 @@
 use Rattle.std.proofs.Common.{sym, ◌∙◌, true≢false}
 use Rattle.trace_graph.specs.Values.{same_value}
-use Rattle.repr.specs.Packed.{productions_in}
+use Rattle.lr1_base.specs.repr.Packed.{productions_in}
 use Rattle.trace_graph.proofs.Finds.{Compared, left_label, right_label, edge_source, edge_target_no, edge_yes}
 use Rattle.trace_graph.proofs.same_edge.Goals as goal
 use Rattle.trace_graph.proofs.same_edge.Goals.{After-read_edge-other, then-eq, else-eq}

@@ -1,7 +1,7 @@
 use native.Mathlib.Omega.{arith}
 use mathlib.Core.Path.{sym, ap}
 use lib.Seq.{length-take-le}
-use Rattle.repr.specs.Reply.{reply_of}
+use Rattle.lr1_base.specs.repr.Reply.{reply_of}
 use Rattle.unyacc.proofs.Laws.{bytes_fit}
 use Rattle.unyacc.proofs.write_text.Goals as goal
 

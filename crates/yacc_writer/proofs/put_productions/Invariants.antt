@@ -1,4 +1,4 @@
-use Rattle.repr.specs.Packed.{production_in}
+use Rattle.lr1_base.specs.repr.Packed.{production_in}
 use Rattle.yacc_writer.specs.Wrote.{production_bytes}
 use Rattle.yacc_writer.proofs.Turns.{Numbered}
 use Rattle.yacc_writer.proofs.put_productions.Given as goal

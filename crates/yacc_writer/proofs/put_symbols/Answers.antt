@@ -1,5 +1,5 @@
 use Rattle.std.proofs.Common.{arith}
-use Rattle.repr.proofs.FrontSymbol.{first_in_range}
+use Rattle.lr1_base.proofs.repr.FrontSymbol.{first_in_range}
 use Rattle.yacc_writer.proofs.Turns.{symbols-first, listed_few, symbols-more, symbols_end}
 use Rattle.yacc_writer.proofs.put_symbols.Goals as goal
 

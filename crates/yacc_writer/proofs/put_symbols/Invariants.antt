@@ -1,4 +1,4 @@
-use Rattle.repr.specs.Listed.{listed}
+use Rattle.lr1_base.specs.repr.Listed.{listed}
 use Rattle.yacc_writer.proofs.Turns.{Symbols}
 use Rattle.yacc_writer.proofs.put_symbols.Given as goal
 

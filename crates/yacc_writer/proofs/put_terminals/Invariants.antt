@@ -1,4 +1,4 @@
-use Rattle.repr.specs.Meaning.{terminal}
+use Rattle.lr1_base.specs.repr.Meaning.{terminal}
 use Rattle.yacc_writer.specs.Wrote.{name_bytes}
 use Rattle.yacc_writer.proofs.Turns.{Numbered}
 use Rattle.yacc_writer.proofs.put_terminals.Given as goal

@@ -1,5 +1,5 @@
 use Rattle.std.proofs.Common.{◌∙◌}
-use Rattle.repr.proofs.FrontSymbol.{first_in_range}
+use Rattle.lr1_base.proofs.repr.FrontSymbol.{first_in_range}
 use Rattle.first.proofs.Walk.{walk_start, walk_end, walk_more, walk-stop}
 use Rattle.first.proofs.FirstSets.end_marked.Goals as goal
 

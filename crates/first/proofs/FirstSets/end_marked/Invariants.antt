@@ -1,6 +1,6 @@
 use Rattle.std.proofs.Common.{◌≡◌}
-use Rattle.repr.specs.Listed.{listed}
-use Rattle.lookahead.specs.Tokens.{union}
+use Rattle.lr1_base.specs.repr.Listed.{listed}
+use Rattle.lr1_base.specs.lookahead.Tokens.{union}
 use Rattle.first.specs.First.{marked_at_end}
 use Rattle.first.proofs.FirstSets.end_marked.Given as goal
 

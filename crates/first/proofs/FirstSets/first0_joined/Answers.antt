@@ -1,7 +1,7 @@
 use mathlib.Core.Path.{sym}
 use lib.Seq.{length-take-le}
-use Rattle.repr.specs.Sizes.{nonterminal_limit, terminal_limit}
-use Rattle.repr.proofs.Joined.{even_parts, odd_more, odd_parts}
+use Rattle.lr1_base.specs.repr.Sizes.{nonterminal_limit, terminal_limit}
+use Rattle.lr1_base.proofs.repr.Joined.{even_parts, odd_more, odd_parts}
 use Rattle.first.proofs.Joined.{joined_even, joined_odd}
 use native.Mathlib.Omega.{arith}
 use Rattle.first.proofs.FirstSets.first0_joined.Goals as goal

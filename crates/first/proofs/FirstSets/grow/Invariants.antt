@@ -1,7 +1,7 @@
 use mathlib.Core.Path.{◌≡◌}
 use mathlib.Core.Bool.{not}
-use Rattle.slices.specs.Same.{same_words}
-use Rattle.repr.specs.Packed.{productions_in}
+use Rattle.lr1_base.specs.words.Same.{same_words}
+use Rattle.lr1_base.specs.repr.Packed.{productions_in}
 use Rattle.first.specs.First.{round}
 use Rattle.first.proofs.FirstSets.grow.Given as goal
 

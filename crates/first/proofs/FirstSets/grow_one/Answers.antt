@@ -1,6 +1,6 @@
 use mathlib.Core.Path.{refl, ap, ◌∙◌}
-use Rattle.repr.specs.Sizes.{nonterminal_limit, terminal_limit}
-use Rattle.repr.specs.Listed.{list_is_fit}
+use Rattle.lr1_base.specs.repr.Sizes.{nonterminal_limit, terminal_limit}
+use Rattle.lr1_base.specs.repr.Listed.{list_is_fit}
 use Rattle.first.proofs.Rounds.{one_grown}
 use native.Mathlib.Omega.{arith}
 use Rattle.first.proofs.FirstSets.grow_one.Goals as goal

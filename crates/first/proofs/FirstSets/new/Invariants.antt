@@ -1,5 +1,5 @@
 use mathlib.Core.Path.{◌≡◌}
-use Rattle.repr.specs.Packed.{productions_in}
+use Rattle.lr1_base.specs.repr.Packed.{productions_in}
 use Rattle.first.proofs.Rounds.{Turn, left}
 use Rattle.first.proofs.FirstSets.new.Given as goal
 

@@ -1,6 +1,6 @@
 use mathlib.Core.Path.{sym, ◌∙◌}
 use lib.Seq.{length-take-le}
-use Rattle.repr.proofs.Joined.{even_parts, odd_more, odd_parts}
+use Rattle.lr1_base.proofs.repr.Joined.{even_parts, odd_more, odd_parts}
 use Rattle.table.specs.Decoded.{meaning}
 use Rattle.state_graph.proofs.Joined.{joined_even, joined_odd}
 use native.Mathlib.Omega.{arith}

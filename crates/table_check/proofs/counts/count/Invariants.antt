@@ -1,5 +1,5 @@
 use Rattle.std.proofs.Common.{◌≡◌, ℕ, ◌<◌, min, length, get_or}
-use Rattle.repr.specs.Sizes.{index_limit}
+use Rattle.lr1_base.specs.repr.Sizes.{index_limit}
 use Rattle.table.specs.Decoded.{symbol_chain}
 use Rattle.table_check.proofs.counts.count.Given as goal
 

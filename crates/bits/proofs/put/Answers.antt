@@ -1,6 +1,0 @@
-use Rattle.bits.proofs.Laws.{bit_put_lem}
-use mathlib.Core.Path.{refl}
-use Rattle.bits.proofs.put.Goals as goal
-
-pub returns : goal.returns
-returns c = bit_put_lem c.args.words.now c.args.k _ refl

@@ -1,6 +1,0 @@
-pub mod Written
-pub mod Fit
-pub mod Canonical
-pub mod Ways
-pub mod Found
-pub mod Laid

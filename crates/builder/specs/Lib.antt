@@ -1,3 +1,0 @@
-pub mod Outcome
-pub mod Canonical
-pub mod Ended

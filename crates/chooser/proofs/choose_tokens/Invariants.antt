@@ -1,7 +1,0 @@
-use Rattle.table.specs.Decoded.{meaning}
-use Rattle.lookahead.specs.Tokens.{members}
-use Rattle.chooser.proofs.Tokens.{Turn}
-use Rattle.chooser.proofs.choose_tokens.Given as goal
-
-abbrev pub invariant-loop-token : goal.invariant-loop-token
-invariant-loop-token l = Turn (meaning l.choice.given.table.words.now) l.choice.conflict l.choice.tokens.0 l.better l.naive (members l.token-iterator.0)

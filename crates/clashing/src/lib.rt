@@ -1,3 +1,0 @@
-// The conflicts of a state, by token sets (specs/Clashes).
-
-#![tactic(auto)]

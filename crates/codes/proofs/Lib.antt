@@ -1,9 +1,0 @@
-pub mod Keys
-pub mod Coding
-pub mod Least
-pub mod Decoded
-pub mod Writing
-pub mod Views
-pub mod KindLaws
-pub mod Answered
-pub mod Lent

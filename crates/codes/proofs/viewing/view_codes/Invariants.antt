@@ -1,5 +1,0 @@
-use Rattle.codes.proofs.Views.{Making}
-use Rattle.codes.proofs.viewing.view_codes.Given as goal
-
-abbrev pub invariant-loop-k : goal.invariant-loop-k
-invariant-loop-k l = Making l.grammar.words.now l.grammar.productions l.words (record { production = l.item.production; index = l.item.index }) l.lists.owners l.lists.sources l.lists.older l.lists.latest l.k

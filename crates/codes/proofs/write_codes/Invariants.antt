@@ -1,5 +1,0 @@
-use Rattle.codes.proofs.Writing.{Writing}
-use Rattle.codes.proofs.write_codes.Given as goal
-
-abbrev pub invariant-loop-k : goal.invariant-loop-k
-invariant-loop-k l = Writing l.grammar.words.now l.grammar.productions l.words l.initial.graph l.graph l.k

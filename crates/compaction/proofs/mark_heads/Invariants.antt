@@ -1,5 +1,0 @@
-use Rattle.compaction.specs.Passes.{HeadsMarked}
-use Rattle.compaction.proofs.mark_heads.Given as goal
-
-abbrev pub invariant-loop-r : goal.invariant-loop-r
-invariant-loop-r l = HeadsMarked l.table.words.now l.heads.first l.r l.heads.k l.initial.numbers l.numbers

@@ -1,9 +1,0 @@
-use Rattle.std.proofs.Common.{◌≡◌, ◌+◌, length}
-use Rattle.repr.specs.Sizes.{record_limit}
-use Rattle.table.specs.Words.{loose}
-use Rattle.compaction.specs.Compaction.{rank}
-use Rattle.compaction.specs.Passes.{Numbering}
-use Rattle.compaction.proofs.number_reached.Given as goal
-
-abbrev pub invariant-loop-r : goal.invariant-loop-r
-invariant-loop-r l = record { count : l.count ≡ loose l.table.words.now + rank l.table.words.now l.r; numbering : Numbering l.table.words.now l.numbers l.r; long : length l.numbers ≡ record_limit }

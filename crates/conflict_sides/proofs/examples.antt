@@ -1,0 +1,17 @@
+pub mod Walking
+pub mod Walks
+pub mod Traces
+pub mod Listed
+pub mod Both
+pub mod Behind
+pub mod Turns
+pub mod Preparing
+pub mod Opening
+pub mod Sides
+pub mod Reduces
+pub mod Shifts
+pub mod Actions
+pub mod Seeking
+pub mod Again
+pub mod Views
+pub mod Opened

@@ -1,0 +1,16 @@
+pub mod conflict
+pub mod examples
+pub mod outline
+pub mod shift_items
+pub use Rattle.lr1_base.specs.item
+pub use Rattle.lr1_base.specs.repr
+pub use Rattle.lr1_base.specs.words
+pub use Rattle.table.specs.Decoded
+pub use Rattle.trace_graph.specs.Fits
+pub use Rattle.trace_graph.specs.Graph
+pub use Rattle.trace.specs.Built
+pub use Rattle.trace.specs.edge_codes
+pub use Rattle.enumerator.specs.example
+pub use Rattle.enumerator.specs.filter
+pub use Rattle.enumerator.specs.graph_view
+pub use Rattle.enumerator.specs.trials

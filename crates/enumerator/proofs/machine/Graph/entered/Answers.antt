@@ -1,5 +1,0 @@
-use Rattle.enumerator.proofs.Stepping.{read_target}
-use Rattle.enumerator.proofs.machine.Graph.entered.Goals as goal
-
-pub returns : goal.returns
-returns c = read_target _ _ _ c.read_edge.ensures.1

@@ -1,6 +1,0 @@
--- Any lookahead that a listing filters by: none, or a set of tokens. Assumes nothing: these are definitions.
-use Rattle.std.specs.Prelude.{Option}
-use Rattle.lookahead.specs.declared.TokenSet.{TokenSet}
-
-abbrev pub Lookahead : Type 0
-Lookahead = Option TokenSet

@@ -1,0 +1,13 @@
+pub mod Trials
+pub mod Lister
+pub mod Words
+pub mod Advance
+pub mod Calls
+pub mod Opening
+pub mod Told
+pub mod Behind
+pub mod Demand
+pub mod Machine
+pub mod Stacks
+pub mod Counts
+pub mod Lookahead

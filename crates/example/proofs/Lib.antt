@@ -1,9 +1,0 @@
-pub mod Sizes
-pub mod LabelList
-pub mod Put
-pub mod Parts
-pub mod Reductions
-pub mod Walk
-pub mod LabelWords
-pub mod Asked
-pub mod Marked

@@ -1,6 +1,0 @@
-use Rattle.std.proofs.Common.{refl}
-use Rattle.lookahead.proofs.Growing.{get_d_none}
-use Rattle.kept_states.proofs.Begins.new.Goals as goal
-
-pub returns : goal.returns
-returns c = (refl, λ k. get_d_none 129 k)

@@ -1,5 +1,0 @@
-pub mod Numbered
-pub mod Listed
-pub mod Reported
-pub mod Marked
-pub mod Accuracy

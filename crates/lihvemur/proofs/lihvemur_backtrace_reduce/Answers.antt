@@ -1,5 +1,0 @@
-use Rattle.lihvemur.proofs.Numbered.{trace_handed}
-use Rattle.lihvemur.proofs.lihvemur_backtrace_reduce.Goals as goal
-
-pub returns : goal.returns
-returns c = trace_handed _ _ _ _ _ _ c.hand_out.ensures _ _ c.backtrace_reduce-answer.ensures

@@ -1,5 +1,0 @@
-pub mod Exported
-pub mod Listings
-pub mod Reports
-pub mod TableC
-pub mod Accuracy

@@ -1,0 +1,21 @@
+pub mod Exported
+pub mod Listings
+pub mod Reports
+pub mod TableC
+pub mod Accuracy
+pub mod Classified
+pub use Rattle.lr1_base.specs.repr
+pub use Rattle.table.specs.Refusals
+pub use Rattle.table_rewrite.specs.compaction
+pub use Rattle.table_rewrite.specs.spelling
+pub use Rattle.state_graph.specs.States
+pub use Rattle.lr1_tables.specs.Outcome
+pub use Rattle.trace.specs.Outcome as TraceOutcome
+pub use Rattle.enumerator.specs.trials
+pub use Rattle.listing.specs.CallList
+pub use Rattle.conflict_sides.specs.conflict
+pub use Rattle.conflicts.specs.Part
+pub use Rattle.yacc_reader.specs.parsed_file
+pub use Rattle.yacc_writer.specs.text
+pub use Rattle.lr1.specs.Edges
+pub use Rattle.lr1.specs.Entries

@@ -1,7 +1,0 @@
-use Rattle.std.proofs.Common.{ap, ◌∙◌}
-use Rattle.lines.specs.Lines.{total_of_symbols, printed_length}
-use Rattle.lines.proofs.ShownExample.length.Goals as goal
-
-pub returns : goal.returns
-unfolding printed_length
-returns c = c.symbol_total.ensures ∙ ap total_of_symbols c.symbols.ensures

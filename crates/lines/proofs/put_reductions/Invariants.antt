@@ -1,5 +1,0 @@
-use Rattle.lines.proofs.Texts.{Parts, reduction_of}
-use Rattle.lines.proofs.put_reductions.Given as goal
-
-abbrev pub invariant-loop-start : goal.invariant-loop-start
-invariant-loop-start l = Parts reduction_of 63 l.initial.out l.at l.reductions l.out l.place l.start-index

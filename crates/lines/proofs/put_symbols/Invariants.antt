@@ -1,5 +1,0 @@
-use Rattle.lines.proofs.Texts.{Parts, symbol_of}
-use Rattle.lines.proofs.put_symbols.Given as goal
-
-abbrev pub invariant-loop-kind : goal.invariant-loop-kind
-invariant-loop-kind l = Parts symbol_of 42 l.initial.out l.at l.symbols l.out l.place l.kind-index

@@ -1,9 +1,0 @@
-use mathlib.Core.Path.{refl}
-use Rattle.lister.proofs.Asking.{sets-any, sets-set}
-use Rattle.lister.proofs.Over.first_sets.Goals as goal
-
-pub returns-in_default : goal.returns-in_default
-returns-in_default c = (sets-any _ _ c.in_default.is _, refl)
-
-pub returns : goal.returns
-returns c = (sets-set _ _ _ c.in-Some.is _ _ c.new.ensures.is, c.new.ensures.terminals)

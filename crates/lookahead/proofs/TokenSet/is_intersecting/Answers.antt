@@ -1,6 +1,0 @@
-use mathlib.Core.Bool.{not}
-use mathlib.Core.Path.{ap}
-use Rattle.lookahead.proofs.TokenSet.is_intersecting.Goals as goal
-
-pub returns : goal.returns
-returns c = ap not c.is_disjoint.ensures.0

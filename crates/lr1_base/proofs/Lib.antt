@@ -1,0 +1,2 @@
+pub mod hash_index
+pub mod laws

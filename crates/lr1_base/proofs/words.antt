@@ -1,0 +1,5 @@
+pub mod Copy
+pub mod Insert
+pub mod Lent
+pub mod Same
+pub mod Put

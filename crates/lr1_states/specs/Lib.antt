@@ -1,0 +1,10 @@
+pub mod canonical
+pub mod closure
+pub mod collection
+pub mod goto
+pub mod start_state
+pub mod state_list
+pub mod stored_item
+pub mod transitions
+pub use Rattle.lr1_base.specs.item
+pub use Rattle.lr1_base.specs.repr

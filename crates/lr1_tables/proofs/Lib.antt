@@ -1,0 +1,5 @@
+pub mod Written
+pub mod Canonical
+pub mod Ways
+pub mod Found
+pub mod Laid

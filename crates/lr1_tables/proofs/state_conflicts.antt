@@ -1,0 +1,4 @@
+pub mod Clashes
+pub mod Laws
+pub mod Shifts
+pub mod Counts

@@ -1,3 +1,0 @@
-// Decimal numerals as bytes (specs/Numeral).
-
-#![tactic(auto)]

@@ -1,5 +1,0 @@
-use Rattle.std.proofs.Common.{arith, ℕ, length-take}
-use Rattle.pipe.proofs.write_words.Goals as goal
-
-pub slice_bounds-write-end-in-loop-piece : goal.slice_bounds-write-end-in-loop-piece
-slice_bounds-write-end-in-loop-piece g c = let s = c.in-Some.ensures.steps in omega (arith, length-take {A = ℕ})

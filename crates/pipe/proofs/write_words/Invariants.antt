@@ -1,6 +1,0 @@
-use mathlib.Core.Path.{◌≡◌}
-use Rattle.std.specs.Slice.Iter.{chunks_size}
-use Rattle.pipe.proofs.write_words.Given as goal
-
-abbrev pub invariant-loop-piece : goal.invariant-loop-piece
-invariant-loop-piece g l = chunks_size l.piece-iterator ≡ 32768

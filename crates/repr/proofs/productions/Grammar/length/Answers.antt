@@ -1,9 +1,0 @@
-use mathlib.Core.Path.{sym, ◌∙◌}
-use Rattle.repr.proofs.Parts.{symbols_long}
-use Rattle.repr.proofs.productions.Grammar.length.Goals as goal
-
-pub returns : goal.returns
-returns c = let P = c.args.self.packed in record {
-  is = c.word.ensures.0 ∙ sym (symbols_long _ _ _ P c.requires);
-  short = rw c.word.ensures.0 (P.short _ c.requires);
-}

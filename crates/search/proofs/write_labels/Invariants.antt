@@ -1,9 +1,0 @@
-use Rattle.std.specs.Prelude.{List}
-use Rattle.repr.specs.Meaning.{Production}
-use Rattle.trace_graph.specs.Graph.{TraceEdge}
-use Rattle.search.specs.Given.{Tried}
-use Rattle.search.proofs.Reading.{Reading}
-use Rattle.search.proofs.write_labels.Given as goal
-
-abbrev pub invariant-loop-at : goal.invariant-loop-at
-invariant-loop-at l = (ps : List Production) (es : List TraceEdge) → Tried ps es l.edges.owners.now l.edges.codes.now l.words → Reading ps es l.edges.owners.now l.edges.codes.now l.words l.initial.labels l.count l.labels l.at

@@ -1,4 +1,0 @@
-pub mod Copy
-pub mod Insert
-pub mod Lent
-pub mod Same

@@ -1,8 +1,0 @@
-use Rattle.std.proofs.Common.{refl}
-use Rattle.std.proofs.Math.Seq.{length-take-le}
-use Rattle.slices.specs.Lent.{zeroed}
-use Rattle.slices.proofs.zero.Goals as goal
-
-pub returns : goal.returns
-unfolding zeroed
-returns c = rw (c.fill.ensures.after (λ y e. e), length-take-le _ _ c.requires) refl

@@ -1,7 +1,0 @@
-use Rattle.spelling.specs.Spelled.{size_of}
-use Rattle.spelling.specs.Grown.{chains_of}
-use Rattle.spelling.proofs.Counting.{Totalling}
-use Rattle.spelling.proofs.Spelling.count_chains.Given as goal
-
-abbrev pub invariant-loop-holder : goal.invariant-loop-holder
-invariant-loop-holder l = Totalling l.self.table.words.now (size_of (chains_of l.self.table.words.now l.region.first l.region.past l.region.k)) l.most l.region.past l.region.k l.holder l.total

@@ -1,6 +1,0 @@
-use Rattle.std.proofs.Common.{refl}
-use Rattle.spelling.proofs.Areas.{spelled}
-use Rattle.spelling.proofs.Spelling.items.Goals as goal
-
-pub returns : goal.returns
-returns c = let S = spelled _ _ c.args.self.table.accepted c.args.self.of in (S.states, (S.productions, refl))

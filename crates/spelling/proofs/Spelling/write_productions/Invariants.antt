@@ -1,5 +1,0 @@
-use Rattle.spelling.proofs.Areas.{Productions}
-use Rattle.spelling.proofs.Spelling.write_productions.Given as goal
-
-abbrev pub invariant-loop-p : goal.invariant-loop-p
-invariant-loop-p l = Productions l.self.table.words.now l.initial.out l.out l.p l.y

@@ -1,5 +1,0 @@
-use Rattle.spelling.proofs.Areas.{States}
-use Rattle.spelling.proofs.Spelling.write_states.Given as goal
-
-abbrev pub invariant-loop-s : goal.invariant-loop-s
-invariant-loop-s l = States l.self.table.words.now l.initial.out l.out l.s l.i l.d

@@ -1,6 +1,0 @@
-use Rattle.std.proofs.Common.{◌∙◌}
-use Rattle.stored.proofs.Stored.{put_part}
-use Rattle.stored.proofs.write_item.Goals as goal
-
-pub returns : goal.returns
-returns c = put_part _ _ _ _ _ c.requires.1 (c.copy_from_slice.ensures.after ∙ c.words.ensures)

@@ -1,0 +1,11 @@
+pub mod compaction
+pub mod grammar_records
+pub mod spelling
+pub mod start_production
+pub use Rattle.lr1_base.specs.repr
+pub use Rattle.table.specs.Checked
+pub use Rattle.table.specs.Decoded
+pub use Rattle.table.specs.Quads
+pub use Rattle.table.specs.Refusals
+pub use Rattle.table.specs.Words
+pub use Rattle.table_check.specs.Known

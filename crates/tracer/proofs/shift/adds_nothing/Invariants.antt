@@ -1,6 +1,0 @@
-use Rattle.std.proofs.Common.{◌≡◌}
-use Rattle.tracer.proofs.Passing.{Passing}
-use Rattle.tracer.proofs.shift.adds_nothing.Given as goal
-
-abbrev pub invariant-loop-read : goal.invariant-loop-read
-invariant-loop-read l = (l.read-iterator.table.words.now ≡ l.tracer.table.words.now) × Passing l.tracer.table.words.now l.state l.edges.flags.now l.entered l.known.state l.read-iterator.at

@@ -1,5 +1,0 @@
-use Rattle.tracer.proofs.Passing.{Further}
-use Rattle.tracer.proofs.tails.ahead.Given as goal
-
-abbrev pub invariant-loop : goal.invariant-loop
-invariant-loop l = Further l.table.words.now l.first l.at

@@ -1,6 +1,0 @@
-use native.Mathlib.Omega.{arith}
-use Rattle.typed.proofs.Texts.{edge_put}
-use Rattle.typed.proofs.put_edge_part.Goals as goal
-
-pub returns : goal.returns
-returns c = (edge_put _ _ _ c.put_by-next.ensures.0 c.put_named.ensures.0, omega (arith, c.put_by-next.ensures.1, c.put_named.ensures.1))

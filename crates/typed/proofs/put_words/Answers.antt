@@ -1,9 +1,0 @@
-use mathlib.Core.Path.{refl}
-use Rattle.typed.proofs.Texts.{numbers-first, numbers_more}
-use Rattle.typed.proofs.put_words.Goals as goal
-
-pub loop-number-init : goal.loop-number-init
-loop-number-init c = numbers-first _ _ _
-
-pub loop-number-preserved : goal.loop-number-preserved
-loop-number-preserved c = numbers_more c.loop-number.invariant c.loop-number-test.true refl c.put_after-place.ensures.0 c.put_after-place.ensures.1

@@ -1,5 +1,0 @@
-use Rattle.view.proofs.Trial.{popped}
-use Rattle.view.proofs.machine.pop.Goals as goal
-
-pub returns : goal.returns
-returns c = popped c.args.words.now c.word-depth.result c.word-depth.ensures.0 c.requires.1.1

@@ -1,5 +1,0 @@
-use Rattle.view.proofs.Trial.{replaced}
-use Rattle.view.proofs.machine.replace.Goals as goal
-
-pub returns : goal.returns
-returns c = replaced c.args.words.now c.word-depth.result c.args.edge c.word-depth.ensures.0 c.requires.1.0

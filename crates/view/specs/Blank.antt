@@ -1,8 +1,0 @@
--- The lists of a view of no edge. Owners are put before they are read, so of them the length alone is said, which the type gives: another crate does not learn it from there. Assumes nothing: these are definitions.
-use Rattle.std.specs.Prelude.{◌≡◌, length, replicate}
-use Rattle.repr.specs.Sizes.{edge_limit}
-use Rattle.view.specs.View.{latest_room}
-use Rattle.view.specs.declared.making.ViewLists.{ViewLists}
-
-abbrev pub Blank : ViewLists → Type 0
-Blank l = (l.sources ≡ replicate edge_limit 0) × (l.older ≡ replicate edge_limit 0) × (l.latest ≡ replicate latest_room 0) × (length l.owners ≡ edge_limit)

@@ -1,6 +1,0 @@
-use mathlib.Core.Path.{◌∙◌}
-use Rattle.yacc_misnamed.proofs.Closed.{fault_told}
-use Rattle.yacc_misnamed.proofs.is_misnamed.Goals as goal
-
-pub returns : goal.returns
-returns c = λ l p. c.is_some.ensures ∙ fault_told _ l p _ (c.fault_place.ensures.first l p)

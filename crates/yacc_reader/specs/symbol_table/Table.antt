@@ -1,0 +1,9 @@
+-- What a table of ids holds. Assumes nothing: these are definitions.
+use Rattle.std.specs.Prelude.{List}
+use Rattle.yacc_reader.specs.parsed_file.Source.{Known}
+use Rattle.yacc_reader.specs.symbol_table.Ids.{Held}
+use Rattle.yacc_reader.specs.declared.symbol_table.IdTable.{IdTable}
+
+-- the nonterminals ns and the terminals ts
+abbrev pub Holds : IdTable → List Known → List Known → Type 0
+Holds s ns ts = Held s.text.now s.words.starts.now s.words.pasts.now s.words.ix.now s.words.lefts.now s.words.tokens.now s.counts ns ts

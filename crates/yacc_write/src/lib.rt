@@ -1,6 +1,0 @@
-// Writing a table's grammar as a yacc text (request 09): what is answered and left in the lent bytes (specs/Outcome).
-
-#![tactic(auto)]
-
-// No text that is written has more bytes (`text_size`, proofs/Layouts).
-pub const TEXT_BYTES: usize = 9468;
