@@ -21,7 +21,7 @@ oracle sample REQUESTS ANSWERS [KIND SEED COUNT]
                                         writes the stored sample, or one of some seeds
 oracle bison SEED COUNT [SIDE ..]       request 01 against bison's canonical LR(1) automata, so many grammars
 oracle yacc SEED COUNT                  request 09 against byacc and bison, so many files
-oracle costs [PART ..]                  times of the Rust and the port, if linked, in markdown: the tables of docs/COSTS.md
+oracle costs [PART ..]                  times of the Rust and the port, if linked, in markdown (docs/COSTS.md has rows of them)
                                         (PART: traces, listings, conflicts, building; or longest, which takes long)
 sides: rust, plain, and port if linked";
 
