@@ -97,6 +97,6 @@ module _ (t : List ℕ) (accepted : check_of t ≡ Accepted) (start room words :
   pub build-meaning : meaning (spell (built_table (meaning t) Rs es)) ≡ built_table (meaning t) Rs es
   build-meaning = spell-meaning (built_table (meaning t) Rs es) written-fits written_ordered
 
-  -- its own spelling (Req 02)
+  -- its own spelling (docs/RULES.md, "One spelling")
   pub build_spelling : spell (meaning (spell (built_table (meaning t) Rs es))) ≡ spell (built_table (meaning t) Rs es)
   build_spelling = ap spell build-meaning

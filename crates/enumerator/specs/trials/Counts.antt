@@ -2,7 +2,7 @@
 use Rattle.std.specs.Prelude.{◌≡◌, ℕ, ◌<◌, List, [], ◌∷◌, length, slice_index}
 use Rattle.lr1_base.specs.repr.Lists.{occurrences}
 
--- a count for each nonterminal (at most 32, document 01)
+-- a count for each nonterminal (at most 32)
 pub record Counted (us ms : List ℕ) : Type 0 where
   pub size : length ms ≡ 32
   pub times : (n : ℕ) → n < 32 → slice_index ms n ≡ occurrences n us

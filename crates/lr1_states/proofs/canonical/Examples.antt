@@ -1,4 +1,4 @@
--- The states computed, and held against an independent model of the request's text. Each state is given as its pairs with their tokens, by production, then
+-- The states computed, and held against an independent model of the rule (docs/RULES.md, "Building states"). Each state is given as its pairs with their tokens, by production, then
 -- index: `at production index set`. Assumes nothing.
 use mathlib.Core.Bool.{not}
 use mathlib.Core.Path.{◌≡◌, refl}
