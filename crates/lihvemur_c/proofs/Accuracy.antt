@@ -1,4 +1,4 @@
--- The accuracy rule: accepted tables with the same counts, productions, spans, items in order and edges in order get the same answers, whatever their words. Assumes nothing.
+-- The accuracy rule: accepted tables with the same counts, productions, spans, items in order and edges in order get the same answers, whatever their words.
 use Rattle.std.proofs.Common.{◌≡◌, ℕ, zero, suc, ◌*◌, List, [], ◌∷◌, ◌++◌, length, take, sym, refl, ap, ◌∙◌}
 use Rattle.lr1_base.specs.repr.Reply.{answered, Reply, refused}
 use Rattle.lr1_base.specs.repr.Meaning.{Item, Table}

@@ -1,4 +1,4 @@
--- Every conflict in the list is one that `classify` does not refuse by 1 to 11 on the table that is written. Assumes nothing.
+-- Every conflict in the list is one that `classify` does not refuse by 1 to 11 on the table that is written.
 use mathlib.Core.Path.{◌≡◌, refl, ◌∙◌}
 use mathlib.Core.Bool.{true, false}
 use mathlib.Core.List.{List, Memᴰ}

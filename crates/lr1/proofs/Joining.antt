@@ -1,4 +1,4 @@
--- Joined lists (docs/RULES.md, "Joined lists"; specs/Joining): the laws of putting strings together, for every table, and so for the public entries. Assumes nothing.
+-- Joined lists (docs/RULES.md, "Joined lists"; specs/Joining): the laws of putting strings together, for every table, and so for the public entries.
 use mathlib.Core.Path.{◌≡◌, refl, sym, ap, ◌∙◌}
 use mathlib.Core.Bool.{Bool, true, false, ◌&&◌}
 use mathlib.Core.List.{List, [], ◌∷◌, ◌++◌}

@@ -1,4 +1,4 @@
--- `build_canonical`: whatever is answered with a table, the table has the book's states and the list all their conflicts. Assumes nothing.
+-- `build_canonical`: whatever is answered with a table, the table has the book's states and the list all their conflicts.
 use mathlib.Core.Path.{◌≡◌, refl, sym, ap, ◌∙◌}
 use mathlib.Core.Bool.{true, false}
 use mathlib.Core.List.{List, [], ◌++◌}

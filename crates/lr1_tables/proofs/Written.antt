@@ -1,4 +1,4 @@
--- The table that is written is accepted, means what was built and is its own spelling; its records are those that were counted. Assumes nothing.
+-- The table that is written is accepted, means what was built and is its own spelling; its records are those that were counted.
 use mathlib.Core.Path.{◌≡◌, refl, sym, ap, ◌∙◌}
 use mathlib.Core.List.{List, [], ◌∷◌, map}
 use Prim.Native.Nat.{ℕ, ◌+◌, ◌≤◌, ◌<◌, min}

@@ -1,5 +1,5 @@
 -- What the state walk of specs/Walk gives (docs/RULES.md, "Walking back"): exactly the states with a path, ascending; two lists of symbols joined;
--- two sets joined; a repeated edge. Assumes nothing.
+-- two sets joined; a repeated edge.
 use mathlib.Core.Path.{◌≡◌, refl, sym, ap, subst, ◌∙◌}
 use mathlib.Core.Bool.{Bool, true, false, ◌&&◌, ◌||◌, true≢false, and-or_distrib_left}
 use mathlib.Core.List.Memᴰ

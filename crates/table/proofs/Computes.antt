@@ -1,4 +1,4 @@
--- The definitions compute: the inputs of refusals 1 to 8 (docs/RULES.md, "Table B"). Assumes nothing.
+-- The definitions compute: the inputs of refusals 1 to 8 (docs/RULES.md, "Table B").
 use mathlib.Core.Path.{◌≡◌, refl}
 use mathlib.Core.List.{[], ◌∷◌, map}
 use lib.ListN.{set}

@@ -1,5 +1,5 @@
 -- Laws of adding an edge to a trace graph (specs/Graph of trace_graph): sameness of edges is an equivalence, an edge that is there is not added again, what is there stays, and no edge
--- comes to stand twice (`once` of its specs/Fits). Assumes nothing.
+-- comes to stand twice (`once` of its specs/Fits).
 use Rattle.std.proofs.Common.{◌≡◌, Bool, true, false, not, ◌&&◌, ◌||◌, eqb, List, [], ◌∷◌, ◌++◌, sym, refl, ap, ◌∙◌, true≢false, append-nil, eq-eqb, eqb-true}
 use mathlib.Core.Bool.{or-false, or-true}
 use mathlib.Core.Option.{Option, none, some}

@@ -1,5 +1,5 @@
 -- A repeated item of a state adds nothing: the turn of a trace over a state's items is the turn over those that can shift the nonterminal, each once (`shifting` of
--- specs/Shifting). An item that cannot shift it changes nothing; an item met before changes nothing, since its edges are there and the pairs that it leads to are entered. Assumes nothing.
+-- specs/Shifting). An item that cannot shift it changes nothing; an item met before changes nothing, since its edges are there and the pairs that it leads to are entered.
 use Rattle.std.proofs.Common.{◌≡◌, ℕ, zero, suc, Bool, true, false, eqb, ltb, List, [], ◌∷◌, sym, refl, ap, ◌∙◌, arith, eqb-true}
 use Rattle.lr1_base.specs.repr.Lists.{mem, some?, keep}
 use Rattle.lr1_base.specs.repr.Meaning.{Item, Table, state_at}

@@ -1,5 +1,5 @@
 -- What holds of every accepted trace (`shift_sound` and `reduce_sound` of proofs/Traced): its numbers are in range and no edge stands twice, so its graph passes the check of
--- a lent graph; the traced item is a node of it; how the ends of an edge go with its label; and how one edge leads to another. Assumes nothing: these are definitions.
+-- a lent graph; the traced item is a node of it; how the ends of an edge go with its label; and how one edge leads to another.
 use Rattle.std.specs.Prelude.{◌≡◌, ℕ, ◌≤◌, Bool, true, false, ◌⊎◌, List, [], ◌∷◌, ◌++◌, length}
 use mathlib.Core.List.{Memᴰ}
 use Rattle.lr1_base.specs.repr.Sizes.{edge_limit}

@@ -1,4 +1,4 @@
--- Numbers in range (specs/Fits, specs/Values): items, nodes and edges of a table's productions in words. Assumes nothing.
+-- Numbers in range (specs/Fits, specs/Values): items, nodes and edges of a table's productions in words.
 use Rattle.std.proofs.Common.{◌≡◌, ℕ, zero, suc, ◌+◌, ◌*◌, ◌<◌, ◌≤◌, Bool, true, false, ◌&&◌, eqb, ltb, leb, List, length, get_or, sym, refl, ap, ◌∙◌, true≢false, arith, ltb-true, le-ltb, lt-ltb, eq-eqb, ne_eqb, eqb-true, leb-true}
 use Rattle.lr1_base.specs.repr.Sizes.{nonterminal_limit, index_limit}
 use Rattle.lr1_base.specs.words.Same.{same_words}

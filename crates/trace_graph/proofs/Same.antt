@@ -1,4 +1,4 @@
--- `same_words` of specs/Same, and the symbols that words say. Assumes nothing.
+-- `same_words` of specs/Same, and the symbols that words say.
 use Rattle.std.proofs.Common.{◌≡◌, ℕ, Bool, zero, suc, ◌<◌, true, ◌&&◌, eqb, List, [], ◌∷◌, sym, refl, ap, true≢false, arith}
 use Rattle.std.specs.Cmp.Lexicographic.{pointwise}
 use Rattle.lr1_base.specs.repr.Sizes.{nonterminal_limit, terminal_limit}

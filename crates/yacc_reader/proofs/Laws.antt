@@ -1,4 +1,4 @@
--- The ways through reading: each refusal in its turn, and what is left where nothing refuses. Assumes nothing.
+-- The ways through reading: each refusal in its turn, and what is left where nothing refuses.
 use Prim.Native.Nat.{ℕ, zero, suc, ◌+◌, ◌/◌, ◌≤◌, ◌<◌}
 use native.Mathlib.Omega.{arith}
 use mathlib.Core.Bool.{true, false}

@@ -1,4 +1,4 @@
--- `fewer_words`: with room for W words and for W' words classifying and choosing answer alike, leave the same buffers, and of the scratch what the answer says. So more scratch than is asked changes no answer (docs/RULES.md, "Lent words"). Assumes nothing.
+-- `fewer_words`: with room for W words and for W' words classifying and choosing answer alike, leave the same buffers, and of the scratch what the answer says. So more scratch than is asked changes no answer (docs/RULES.md, "Lent words").
 use Rattle.std.proofs.Common.{◌≡◌, ℕ, ◌≤◌, ◌&&◌, leb, List, length, refl, arith, le-leb}
 use borrow.Author.Tests.{lt-leb}
 use Rattle.lr1_base.specs.repr.Sizes.{example_room}

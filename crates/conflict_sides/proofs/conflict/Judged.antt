@@ -1,4 +1,4 @@
--- Laws of judging (specs/conflict/Judge), one for each condition that is the Rust's (docs/RULES.md, "Classes"): precedence, ambiguous reduction, and the inline test's zip. Assumes nothing.
+-- Laws of judging (specs/conflict/Judge), one for each condition that is the Rust's (docs/RULES.md, "Classes"): precedence, ambiguous reduction, and the inline test's zip.
 use Rattle.std.proofs.Common.{◌≡◌, ℕ, suc, true, false, eqb, List, [], ◌∷◌, ◌++◌, refl, ap, ◌∙◌, eq-eqb, ne_eqb}
 use mathlib.Core.Bool.{and-false}
 use mathlib.Core.Option.{none, some}

@@ -1,4 +1,4 @@
--- The marked examples (docs/RULES.md, "Table B"), shown of the definitions that the contracts cite: one statement over one list. Assumes nothing.
+-- The marked examples (docs/RULES.md, "Table B"), shown of the definitions that the contracts cite: one statement over one list.
 use Rattle.std.proofs.Common.{◌≡◌, ℕ, Bool, true, false, List, [], ◌∷◌, ◌++◌, map, length, replicate, refl}
 use mathlib.Core.Option.{none, some}
 use Rattle.lr1_base.specs.repr.Sizes.{graph_room, scratch_words, classify_scratch, example_room}

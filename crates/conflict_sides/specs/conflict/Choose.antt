@@ -1,4 +1,4 @@
--- Choosing which tokens of a conflict to report (`report_errors` without messages; docs/RULES.md, "Choosing"). Assumes nothing: these are definitions.
+-- Choosing which tokens of a conflict to report (`report_errors` without messages; docs/RULES.md, "Choosing").
 use Rattle.std.specs.Prelude.{ℕ, zero, suc, ◌^◌, Bool, true, false, not, ◌&&◌, List, [], ◌∷◌, length, take, ◌==◌, nat_le, nat_lt}
 use Rattle.lr1_base.specs.repr.Sizes.{classify_scratch}
 use Rattle.lr1_base.specs.words.Lent.{zeroed}

@@ -1,4 +1,4 @@
--- What `classify` answers and leaves: answer, scratch words, words of the two example buffers. Assumes nothing: these are definitions.
+-- What `classify` answers and leaves: answer, scratch words, words of the two example buffers.
 use Rattle.std.specs.Prelude.{ℕ, zero, suc, Bool, true, false, ◌&&◌, List, length, ◌==◌, nat_le, nat_lt}
 use Rattle.std.proofs.Math.Option.{Option, none, some}
 use Rattle.lr1_base.specs.repr.Sizes.{classify_scratch, example_room}

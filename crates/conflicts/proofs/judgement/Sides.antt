@@ -1,4 +1,4 @@
--- Laws of two sides as they are kept, one for each way through the code: an example made again, the first pair that is read alike, the inline test, and from what is read of a table to the judgement. Assumes nothing.
+-- Laws of two sides as they are kept, one for each way through the code: an example made again, the first pair that is read alike, the inline test, and from what is read of a table to the judgement.
 use Prim.Native.Nat.{ℕ, zero, suc, ◌+◌, ◌≤◌, ◌<◌}
 use native.Mathlib.Omega.{arith}
 use mathlib.Core.Path.{◌≡◌, refl, sym, ap, ◌∙◌}

@@ -1,4 +1,4 @@
--- What a caller of the search has and gets: words that hold a trial, the trials after it, what an answer says (specs/filter/Given, specs/filter/Found). Assumes nothing.
+-- What a caller of the search has and gets: words that hold a trial, the trials after it, what an answer says (specs/filter/Given, specs/filter/Found).
 use Rattle.std.specs.Prelude.{◌≡◌, ℕ, zero, suc, ◌≤◌, Bool, true, false, List, [], ◌∷◌, ◌++◌, length, drop}
 use native.Mathlib.Omega.{arith}
 use mathlib.Core.Path.{refl, sym, ap, ◌∙◌, subst}

@@ -1,4 +1,4 @@
--- The nonterminal of a node, as `node_owner` reads it. Assumes nothing.
+-- The nonterminal of a node, as `node_owner` reads it.
 use Prim.Native.Nat.{ℕ, zero, suc, ◌≤◌, ◌<◌}
 use native.Mathlib.Omega.{arith}
 use mathlib.Core.Path.{◌≡◌, refl, sym, ap, ◌∙◌}

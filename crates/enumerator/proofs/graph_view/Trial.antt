@@ -1,4 +1,4 @@
--- Words that hold a stack (specs/graph_view/Trial): an edge more, another last edge, one fewer; the words of one stack are those of no other; with zeros behind them they are those of specs/trials/Words. Assumes nothing.
+-- Words that hold a stack (specs/graph_view/Trial): an edge more, another last edge, one fewer; the words of one stack are those of no other; with zeros behind them they are those of specs/trials/Words.
 use Prim.Native.Nat.{ℕ, suc, ◌+◌, ◌-◌, ◌≤◌, ◌<◌}
 use native.Mathlib.Omega.{arith}
 use mathlib.Core.Path.{◌≡◌, refl, sym, ap, ◌∙◌}

@@ -1,4 +1,4 @@
--- Whole lists of calls (docs/RULES.md, "Listing"; `Demand` of specs/trials/Demand): over any list of calls, refused ones included, between one example and the next no path is passed over. Assumes nothing.
+-- Whole lists of calls (docs/RULES.md, "Listing"; `Demand` of specs/trials/Demand): over any list of calls, refused ones included, between one example and the next no path is passed over.
 use Rattle.std.proofs.Common.{◌≡◌, ℕ, ◌-◌, Bool, true, false, List, [], ◌∷◌, ◌++◌, map, length, drop, refl, ap, ◌∙◌}
 use Rattle.lr1_base.specs.repr.Reply.{Reply, answered}
 use Rattle.lr1_base.specs.repr.Sizes.{trial_limit}

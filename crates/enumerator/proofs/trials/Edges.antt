@@ -1,4 +1,4 @@
--- The edges that a lent graph's words hold (specs/trials/Words and specs/Fits of trace_graph): all of them lie in the first 8,193 words. Assumes nothing.
+-- The edges that a lent graph's words hold (specs/trials/Words and specs/Fits of trace_graph): all of them lie in the first 8,193 words.
 use Rattle.std.proofs.Common.{◌≡◌, ℕ, zero, suc, ◌+◌, ◌<◌, ◌≤◌, true, eqb, ltb, leb, List, length, get_or, sym, ap, ◌∙◌, arith, ltb-true, leb-true}
 use Rattle.lr1_base.specs.repr.Sizes.{edge_limit, edge_place}
 use Rattle.lr1_base.specs.repr.Lists.{below, every?}

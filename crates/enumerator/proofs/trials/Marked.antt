@@ -1,5 +1,5 @@
 -- The two listings of docs/RULES.md, "Table B", as the plain lister's whole output for three calls: the example with its count, the end with 3, the end again;
--- and that table and graphs are such as opening asks for. Assumes nothing.
+-- and that table and graphs are such as opening asks for.
 use Rattle.std.proofs.Common.{◌≡◌, ℕ, true, List, [], ◌∷◌, ◌++◌, map, length, replicate, refl, ap, ◌∙◌, subst, arith}
 use mathlib.Core.List.Memᴰ
 use mathlib.Core.List.{Memᴰ}

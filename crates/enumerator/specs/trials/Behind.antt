@@ -1,5 +1,4 @@
 -- What a list of calls leaves behind: the listing, and the scratch word for word (docs/RULES.md, "Listing").
--- Assumes nothing: these are definitions.
 use Rattle.std.specs.Prelude.{◌≡◌, ℕ, zero, suc, Bool, true, false, List, ◌∷◌, length, drop}
 use Rattle.lr1_base.specs.repr.Sizes.{scratch_words}
 use Rattle.lr1_base.specs.words.Lent.{in_front, zeroed}

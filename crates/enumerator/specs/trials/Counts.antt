@@ -1,4 +1,4 @@
--- The counts that the code of the machine keeps: how often each nonterminal stands on the walk (`used_of` of specs/trials/Machine), so that a step need not go through it. Assumes nothing: these are definitions.
+-- The counts that the code of the machine keeps: how often each nonterminal stands on the walk (`used_of` of specs/trials/Machine), so that a step need not go through it.
 use Rattle.std.specs.Prelude.{◌≡◌, ℕ, ◌<◌, List, [], ◌∷◌, length, slice_index}
 use Rattle.lr1_base.specs.repr.Lists.{occurrences}
 

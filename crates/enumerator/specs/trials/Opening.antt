@@ -1,4 +1,4 @@
--- The listing that opening gives, and what opening asks (docs/RULES.md, "Listing"). Assumes nothing: these are definitions.
+-- The listing that opening gives, and what opening asks (docs/RULES.md, "Listing").
 use Rattle.std.specs.Prelude.{◌≡◌, ℕ, ◌≤◌, Bool, true, List, length}
 use Rattle.lr1_base.specs.repr.Sizes.{graph_room}
 use Rattle.lr1_base.specs.repr.Meaning.{Item}

@@ -1,4 +1,4 @@
--- The second half of what holds of whole lists of calls (docs/RULES.md, "Listing"): what the plain lister's answers to a list of calls tell of the paths. Assumes nothing: these are definitions.
+-- The second half of what holds of whole lists of calls (docs/RULES.md, "Listing"): what the plain lister's answers to a list of calls tell of the paths.
 use Rattle.std.specs.Prelude.{◌≡◌, ℕ, suc, ◌<◌, ◌≤◌, Bool, true, false, ◌⊎◌, ◌↔◌, List, [], ◌∷◌, ◌++◌, map, length, take, drop, ◌==◌}
 use mathlib.Core.List.{Memᴰ}
 use Rattle.std.proofs.Math.Option.{Option, none, some}

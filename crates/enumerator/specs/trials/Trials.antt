@@ -1,5 +1,4 @@
 -- The trials of a listing (docs/RULES.md, "Listing"; `PathEnumerator`): the paths, their order, their enumeration. An edge is named by its number, its place in the order added.
--- Assumes nothing: these are definitions.
 use Rattle.std.specs.Prelude.{◌≡◌, ℕ, zero, suc, ◌+◌, ◌<◌, Bool, true, false, ◌↔◌, List, [], ◌∷◌, ◌++◌, map, length, ◌≢◌, slice_index_or}
 use mathlib.Core.List.{Memᴰ}
 use Rattle.lr1_base.specs.repr.Sizes.{nonterminal_limit}

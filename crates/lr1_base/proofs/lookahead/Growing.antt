@@ -1,5 +1,5 @@
 -- Laws of a list of token sets that grows until nothing changes: what lies inside what, which lists are the same, and the sum of the sets as numbers, which a change
--- raises and the size of the sets bounds. Assumes nothing.
+-- raises and the size of the sets bounds.
 use mathlib.Core.Path.{◌≡◌, refl, sym, subst}
 use mathlib.Core.Bool.{true, false, ◌&&◌}
 use mathlib.Core.List.{List, [], ◌∷◌}

@@ -1,4 +1,4 @@
--- What an entry answers (docs/RULES.md, "Refusals"): a value, or the number of a refusal and its place. Assumes nothing: these are definitions.
+-- What an entry answers (docs/RULES.md, "Refusals"): a value, or the number of a refusal and its place.
 use Rattle.std.specs.Prelude.{ℕ, Result, Ok, Err}
 use Rattle.lr1_base.specs.declared.repr.refusals.Refusal.{Refusal}
 use Rattle.lr1_base.specs.declared.repr.refusals.Refusal.TheVariants.{Words, Counts, Chain, Owner, TooLong, Symbol, Target, Spare, OutOfRange, EndShifted, TooShort, TooManyEdges, TooManyTrials, TooManyExamples, NoNode, TooManyStates, NoRoom, NoGrammar, NoText, Misnamed, Unordered}

@@ -1,4 +1,4 @@
--- The sizes of docs/RULES.md, said once. What one of something takes in words is its room. Assumes nothing: these are definitions.
+-- The sizes of docs/RULES.md, said once. What one of something takes in words is its room.
 use Rattle.std.specs.Prelude.{ℕ, ◌+◌, ◌*◌}
 
 -- records of a table (refusal 1)

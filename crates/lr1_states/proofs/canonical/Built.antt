@@ -1,5 +1,5 @@
 -- Every number of the table that is written is in range (`built-fits`), and so is every number of a conflict (`clash_fits`); while no state is refused, the
--- items are few enough for the room that is lent (`few_items`). Assumes nothing.
+-- items are few enough for the room that is lent (`few_items`).
 use mathlib.Core.Path.{◌≡◌, sym, ◌∙◌}
 use mathlib.Core.Bool.{false, not}
 use mathlib.Core.List.{List, [], ◌∷◌, ◌++◌, map, Memᴰ}

@@ -1,4 +1,4 @@
--- The conflicts listed are the book's: `conflicts_exact`; the pairs written are those that occur: `written_exact`. Assumes nothing.
+-- The conflicts listed are the book's: `conflicts_exact`; the pairs written are those that occur: `written_exact`.
 use mathlib.Core.Path.{◌≡◌, refl, sym, ap, ◌∙◌, subst}
 use mathlib.Core.Bool.{Bool, true, false, ◌&&◌, not}
 use mathlib.Core.List.Memᴰ

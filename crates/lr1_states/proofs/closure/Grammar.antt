@@ -1,4 +1,4 @@
--- The packed words under specs/closure/Grammar: a production is the table's. Assumes nothing.
+-- The packed words under specs/closure/Grammar: a production is the table's.
 use Rattle.std.proofs.Common.{◌≡◌, ℕ, zero, suc, ◌+◌, ◌*◌, ◌<◌, true, List, [], ◌∷◌, drop, refl, arith}
 use Rattle.lr1_base.specs.repr.Meaning.{Table, no_production, production_at}
 use Rattle.lr1_base.specs.repr.Listed.{list_is_fit}

@@ -1,5 +1,5 @@
 -- The canonical LR(1) item sets of Aho, Sethi and Ullman, as the book has them: an item has one token, a set is what its rules give. No fuel, no numbers
--- for sets. Tokens 0 to T - 1 are terminals, T is the end. Assumes nothing: these are definitions.
+-- for sets. Tokens 0 to T - 1 are terminals, T is the end.
 use Rattle.std.specs.Prelude.{ℕ, suc, ◌<◌, ◌≡◌, ◌⊎◌, length, drop}
 use mathlib.Core.List.{List, [], ◌∷◌, Memᴰ}
 use Rattle.lr1_base.specs.repr.Meaning.{Symbol, nonterminal, terminal, Item, Table, production_at}

@@ -1,4 +1,4 @@
--- Laws of counting over all states, and of refusal 17 at the end. Assumes nothing.
+-- Laws of counting over all states, and of refusal 17 at the end.
 use mathlib.Core.Path.{◌≡◌, refl, sym, ap, ◌∙◌}
 use mathlib.Core.Bool.{Bool, true, false, ◌&&◌}
 use mathlib.Core.List.{List, [], ◌∷◌, ◌++◌, map}

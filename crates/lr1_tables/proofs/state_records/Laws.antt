@@ -1,4 +1,4 @@
--- Laws of the writing of states, items and edges. Assumes nothing.
+-- Laws of the writing of states, items and edges.
 use mathlib.Core.Path.{refl, ◌≡◌, sym, ap, ◌∙◌}
 use mathlib.Core.List.{List, [], ◌∷◌, map}
 use Prim.Native.Nat.{ℕ, zero, suc, ◌+◌, ◌-◌, ◌*◌, ◌/◌, ◌%◌, ◌≤◌, ◌<◌}

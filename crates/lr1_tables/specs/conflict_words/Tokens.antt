@@ -1,4 +1,4 @@
--- The words of a conflict from its pair and its token. Assumes nothing: these are definitions.
+-- The words of a conflict from its pair and its token.
 use Rattle.std.specs.Prelude.{ℕ, List, [], ◌∷◌}
 use Rattle.lr1_tables.specs.declared.conflict_words.Action.{Action}
 use Rattle.lr1_tables.specs.declared.conflict_words.Action.TheVariants.{Shift, Reduce}

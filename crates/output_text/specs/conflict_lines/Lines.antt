@@ -1,4 +1,4 @@
--- The lines that the explaining program prints (docs/RULES.md, "The explaining program"), as bytes. Assumes nothing: these are definitions.
+-- The lines that the explaining program prints (docs/RULES.md, "The explaining program"), as bytes.
 use Rattle.std.specs.Prelude.{ℕ, ◌+◌, ◌*◌, ◌≤◌, ◌≡◌, true, false, List, [], ◌∷◌, ◌++◌, length, get_or, take, drop, eqb}
 use Rattle.lr1_base.specs.repr.Sizes.{reduction_limit, example_symbols, reduction_room, reduction_place}
 use Rattle.lr1_base.specs.repr.Lists.{joined}

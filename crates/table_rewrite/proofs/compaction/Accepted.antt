@@ -1,4 +1,4 @@
--- Where the reached records are moved, the table is accepted again. Assumes nothing.
+-- Where the reached records are moved, the table is accepted again.
 use mathlib.Core.Path.{◌≡◌, refl, sym, ap, ◌∙◌}
 use mathlib.Core.Bool.{Bool, true, false, ◌&&◌, ◌||◌, not}
 use mathlib.Core.List.{List}

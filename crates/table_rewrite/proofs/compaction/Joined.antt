@@ -1,4 +1,4 @@
--- The passes of `compact` one after the other, over the areas that were read: what each asks, and what all leave. Assumes nothing.
+-- The passes of `compact` one after the other, over the areas that were read: what each asks, and what all leave.
 use mathlib.Core.Path.{◌≡◌, sym, ap, ◌∙◌}
 use mathlib.Core.List.{List}
 use Prim.Native.Nat.{ℕ, ◌*◌, ◌≤◌, ◌<◌}

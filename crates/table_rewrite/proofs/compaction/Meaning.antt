@@ -1,4 +1,4 @@
--- Where the reached records are moved, the meaning is the same. Assumes nothing.
+-- Where the reached records are moved, the meaning is the same.
 use mathlib.Core.Path.{◌≡◌, refl, sym, ap, ◌∙◌}
 use mathlib.Core.Bool.{Bool, true}
 use mathlib.Core.List.{List, [], ◌∷◌, ◌++◌, map}

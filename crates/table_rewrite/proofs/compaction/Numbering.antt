@@ -1,5 +1,5 @@
 -- Marks and new numbers for all three kinds in one list: once the heads are marked, one ascending pass that marks the next of each marked record decides `reached`
--- and numbers it. One law for each way through a turn of the loops. Assumes nothing.
+-- and numbers it. One law for each way through a turn of the loops.
 use mathlib.Core.Path.{◌≡◌, refl, sym, ap, ◌∙◌}
 use mathlib.Core.Bool.{true, false}
 use mathlib.Core.List.{List}

@@ -1,4 +1,4 @@
--- What the packed productions of a table say of each production, and how many symbols they have. Assumes nothing.
+-- What the packed productions of a table say of each production, and how many symbols they have.
 use mathlib.Core.Path.{◌≡◌, refl, sym, ap, ◌∙◌}
 use mathlib.Core.List.{List, [], ◌∷◌, map}
 use Prim.Native.Nat.{ℕ, zero, suc, ◌+◌, ◌*◌, ◌≤◌, ◌<◌}

@@ -1,4 +1,4 @@
--- Laws of the writing of symbols from the packed productions: one production's, and all of them. Assumes nothing.
+-- Laws of the writing of symbols from the packed productions: one production's, and all of them.
 use mathlib.Core.Path.{◌≡◌, refl, sym, ap, ◌∙◌}
 use mathlib.Core.Bool.{true}
 use mathlib.Core.List.{List, [], ◌∷◌}

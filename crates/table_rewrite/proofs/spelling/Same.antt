@@ -1,4 +1,4 @@
--- What the spelling promises (docs/RULES.md, "One spelling"): tables of equal meaning are spelled alike and others never, and spelling again changes nothing. Assumes nothing.
+-- What the spelling promises (docs/RULES.md, "One spelling"): tables of equal meaning are spelled alike and others never, and spelling again changes nothing.
 use mathlib.Core.Path.{◌≡◌, sym, ap, ◌∙◌}
 use mathlib.Core.List.{List, []}
 use mathlib.Core.Logic.{◌↔◌}

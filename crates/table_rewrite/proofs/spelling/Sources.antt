@@ -1,4 +1,4 @@
--- The three regions of a spelling are chains of the table's own records, each with another next index: so one function writes them all. Assumes nothing.
+-- The three regions of a spelling are chains of the table's own records, each with another next index: so one function writes them all.
 use mathlib.Core.Path.{◌≡◌, refl, sym, ap, ◌∙◌}
 use mathlib.Core.Bool.{Bool, true, false, ◌&&◌, ◌||◌}
 use mathlib.Core.List.{List, [], ◌∷◌, map}

@@ -1,4 +1,4 @@
--- What is written with a start production is accepted, means what was to be written and is its own spelling; no number moved. Assumes nothing.
+-- What is written with a start production is accepted, means what was to be written and is its own spelling; no number moved.
 use mathlib.Core.Path.{◌≡◌, refl, sym, ap, ◌∙◌}
 use mathlib.Core.Bool.{Bool, true, false, not, ◌||◌, ◌&&◌}
 use mathlib.Core.Logic.{inl, inr}

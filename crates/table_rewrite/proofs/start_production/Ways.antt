@@ -1,4 +1,4 @@
--- The ways through `with_start`. Assumes nothing.
+-- The ways through `with_start`.
 use mathlib.Core.Path.{◌≡◌, refl, sym, ap, ◌∙◌}
 use mathlib.Core.Bool.{Bool, true, false, ◌||◌}
 use mathlib.Core.List.{List, [], ◌∷◌, ◌++◌}

@@ -1,4 +1,4 @@
--- What the parts of the writer read and leave: chains as the table's records hold them; g are the output's words before and g' after. Assumes nothing: these are definitions.
+-- What the parts of the writer read and leave: chains as the table's records hold them; g are the output's words before and g' after.
 use Rattle.std.specs.Prelude.{ℕ, suc, ◌+◌, ◌-◌, ◌*◌, ◌≤◌, ◌<◌, min, Bool, true, ◌||◌, ◌≡◌, List, map, length, get_or}
 use Rattle.lr1_base.specs.repr.Sizes.{record_limit}
 use Rattle.lr1_base.specs.repr.Lists.{up_from}

@@ -1,5 +1,4 @@
 -- The single spelling of a table (docs/RULES.md, "One spelling"): what a table means, written as words. Records are made first, by regions, and then written out.
--- Assumes nothing: these are definitions.
 use Rattle.std.specs.Prelude.{ℕ, zero, suc, ◌+◌, ◌-◌, ◌<◌, Bool, ◌≡◌, List, [], ◌∷◌, ◌++◌, map, length, get_or, eqb}
 use Rattle.std.proofs.Math.Option.{Option, none, some}
 use Rattle.lr1_base.specs.repr.Lists.{up_from, below, keep, first?}

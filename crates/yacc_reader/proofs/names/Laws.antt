@@ -1,4 +1,4 @@
--- The turns of the loops over bytes and over a bucket's chain; a name entered. Assumes nothing.
+-- The turns of the loops over bytes and over a bucket's chain; a name entered.
 use Prim.Native.Nat.{ℕ, zero, suc, ◌+◌, ◌-◌, ◌*◌, ◌%◌, ◌≤◌, ◌<◌, min}
 use native.Mathlib.Omega.{arith}
 use mathlib.Core.Bool.{Bool, true, false, ◌&&◌}

@@ -1,4 +1,4 @@
--- Symbols in words, a symbol and a production put into the packed words. Assumes nothing.
+-- Symbols in words, a symbol and a production put into the packed words.
 use Prim.Native.Nat.{ℕ, zero, suc, ◌+◌, ◌*◌, ◌≤◌, ◌<◌}
 use native.Mathlib.Omega.{arith}
 use mathlib.Core.Bool.{Bool, true, ◌&&◌}
