@@ -11,7 +11,7 @@ use Rattle.lr1_base.specs.repr.Reply.{answered, refused}
 use Rattle.lr1_base.specs.repr.Lists.{mem, joined}
 use Rattle.lr1_base.specs.repr.Meaning.{Symbol, Table}
 use Rattle.lr1_base.specs.repr.Listed.{listed}
-use Rattle.lr1_base.proofs.repr.Lists.{mem-cons_here, mem-cons_there, joined_nil, joined_cons, joined_members}
+use Rattle.lr1_base.proofs.repr.Lists.{joined_members}
 use Rattle.lr1_base.proofs.repr.Parts.{length-listed}
 use Rattle.lr1_base.proofs.repr.Joined.{listed-append, fits-append}
 use Rattle.table.specs.Checked.{Checked, Accepted, Refused}

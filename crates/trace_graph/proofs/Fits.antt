@@ -5,7 +5,7 @@ use Rattle.lr1_base.specs.words.Same.{same_words}
 use Rattle.lr1_base.specs.repr.Meaning.{Production, no_production}
 use Rattle.lr1_base.specs.repr.Listed.{listed}
 use Rattle.lr1_base.specs.repr.Packed.{symbol_words, production_in, productions_in, Packed}
-use Rattle.lr1_base.proofs.repr.Lists.{length-map-below, get_d_map-below}
+use Rattle.lr1_base.proofs.repr.Lists.{get_d_map-below}
 use Rattle.lr1_base.proofs.repr.Parts.{symbols_long}
 use Rattle.trace_graph.specs.declared.Node.{Node as NodeValue}
 use Rattle.trace_graph.specs.declared.TraceEdge.{TraceEdge as EdgeValue}

@@ -13,8 +13,7 @@ use Rattle.table.specs.Checked.{Accepted}
 use Rattle.table.specs.Words.{word_at, records, state_area, production_area, loose}
 use Rattle.table.specs.Refusals.{check_of}
 use Rattle.table.specs.Quads.{Quad}
-use Rattle.table.proofs.Accepted.{Accepts, accepts, areas_of, rows_first}
-use Rattle.table_check.specs.Marks.{Sized}
+use Rattle.table.proofs.Accepted.{Accepts, accepts, areas_of}
 use Rattle.table_check.specs.Known.{AreasOf}
 use Rattle.table_check.specs.declared.areas.Areas.{Areas}
 use Rattle.table_rewrite.specs.compaction.Compaction.{count_of, compacted}

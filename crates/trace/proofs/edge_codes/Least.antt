@@ -5,8 +5,8 @@ use Rattle.std.specs.Option.{unwrap_or}
 use lib.ListN.{length-replicate}
 use borrow.Author.Tests.{eqb-false}
 use Rattle.lr1_base.specs.repr.Meaning.{Production, no_production}
-use Rattle.lr1_base.specs.repr.Packed.{production_in, productions_in}
-use Rattle.lr1_base.proofs.repr.Lists.{cases, length-map-below}
+use Rattle.lr1_base.specs.repr.Packed.{productions_in}
+use Rattle.lr1_base.proofs.repr.Lists.{cases}
 use Rattle.lr1_base.proofs.repr.Tests.{first?-below_intro}
 use Rattle.table.specs.Decoded.{or_zero}
 use Rattle.trace_graph.specs.Graph.{label_of, same_sets}

@@ -3,7 +3,7 @@ use Rattle.std.specs.Prelude.{◌≡◌, ℕ, ◌+◌, ◌<◌, ◌≤◌, List,
 use Rattle.lr1_base.specs.repr.Sizes.{production_limit, edge_limit}
 use Rattle.lr1_base.specs.repr.Lists.{some?}
 use Rattle.lr1_base.specs.repr.Meaning.{Production, Table, All}
-use Rattle.trace_graph.specs.Graph.{at_nonterminal, TraceEdge, no_edge}
+use Rattle.trace_graph.specs.Graph.{TraceEdge, no_edge}
 use Rattle.trace.specs.Sound.{EdgeSound}
 use Rattle.lr1_base.specs.bits.Bits.{bit_at}
 use Rattle.trace.specs.edge_codes.Codes.{code_limit, code_of, least_alike, key_of}
