@@ -1,9 +1,38 @@
 #!/usr/bin/env bash
-# Explains the conflicts of a yacc file, ./explain.sh tables/dangling_else.y, of a grammar typed as numbers, ./explain.sh tables/dangling_else.grammar, or of a table with states, ./explain.sh tables/table_b.txt: the name's end says which.
-# The first run proves and builds the programs.
-# Where the text or its states are refused, the refusal is all that is said, and this fails; where a grammar has no conflicts, this says so and succeeds.
-# Where a program says something on standard error, a byte that cannot be read or a read or write that failed, what was written is not whole: it is shown, and this fails.
+# Explains the conflicts of one file by the library's programs.
 set -euo pipefail
+
+usage() {
+    cat <<'HELP'
+usage: ./explain.sh FILE
+
+Explains the conflicts of FILE by the library's programs, in numbers. The end of its name says what it is:
+
+  FILE.y         rules of a yacc file             ./explain.sh tables/dangling_else.y
+  FILE.grammar   a grammar typed as numbers       ./explain.sh tables/dangling_else.grammar
+  other names    a table with its conflicts       ./explain.sh tables/table_b.txt
+
+The first run proves and builds the programs, which takes minutes; it says so.
+docs/ANSWERS.md says how to read the lines, docs/YACC.md which yacc files are read.
+The status is 0 where all conflicts are shown or there are none, 1 where something is refused,
+unreadable or cut, which standard error then says, and 2 for a wrong use.
+HELP
+}
+
+case ${1-} in
+    -h | --help) usage; exit 0 ;;
+    '') usage >&2; exit 2 ;;
+    -*) echo "explain.sh: there is no option '$1'" >&2; usage >&2; exit 2 ;;
+esac
+if [ $# -gt 1 ]; then
+    echo "explain.sh: one file at a time" >&2
+    usage >&2
+    exit 2
+fi
+if [ ! -e "$1" ]; then
+    echo "explain.sh: there is no file '$1'" >&2
+    exit 2
+fi
 file=$(realpath "$1")
 cd "$(dirname "$0")"
 case $file in
@@ -12,8 +41,11 @@ case $file in
     *) programs="parse_words explain" ;;
 esac
 for p in $programs; do
+    [ ! -x "crates/$p/out/$p" ] || continue
+    command -v rt >/dev/null || { echo "explain.sh: the program $p is not built, and the Rattle kit's rt is not on the PATH" >&2; exit 2; }
+    echo "explain.sh: proving and building the program $p; this is done once, and takes minutes" >&2
     # (what it answers to no input is of no use)
-    [ -x "crates/$p/out/$p" ] || (cd "crates/$p" && rt run </dev/null >/dev/null) || [ -x "crates/$p/out/$p" ]
+    (cd "crates/$p" && rt run </dev/null >/dev/null) || [ -x "crates/$p/out/$p" ] || { echo "explain.sh: the program $p was not built" >&2; exit 2; }
 done
 work=$(mktemp -d)
 trap 'rm -rf "$work"' EXIT

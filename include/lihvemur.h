@@ -3,13 +3,13 @@
  * A list of words passes as a pointer and its number of words; a list of no words needs a pointer that is not null all the same.
  * Buffers lent to one call must not overlap: what a call may write (a list that is not const, a result) shares no byte with anything else that it is lent. No function keeps a pointer.
  *
- * A function answers 0, or the number of a refusal (docs/ANSWERS.md says what each means), and writes the refusal's place behind `place`, its last parameter.
+ * A function answers 0, or the number of a refusal (docs/RULES.md, "Refusals", says what each means), and writes the refusal's place behind `place`, its last parameter.
  * Three numbers are no refusals: LIHVEMUR_END of `lihvemur_advance`, the same in the records of `lihvemur_examples`, and the answer of `lihvemur_observed`, 0 or 1, which refuses nothing.
  * Refusal 16 of `lihvemur_build_states` has the number of LIHVEMUR_END; no call gives both.
  * A result behind another pointer is written only with answer 0, unless this header says otherwise.
  *
- * Stack: a trace, and so a class or a choice, calls on itself, at most 4,096 times nested; there a program needed 1,912 KiB in all. 8 MiB suffice for every call.
- * Reading a yacc text takes some 660 KB, building states some 80 KB.
+ * Stack: a trace, and so a class or a choice, calls on itself, at most 4,096 times nested, and there takes up to 1.4 MB. Reading a yacc text takes some 660 KB, building states some 190 KB,
+ * any other call less than 100 KB (docs/COSTS.md, "Stack"). 8 MiB suffice for every call.
  *
  * A set of tokens is a word, token k its bit k; the end of input is the token after the last terminal.
  */

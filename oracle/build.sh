@@ -1,11 +1,23 @@
 #!/bin/sh
-# Builds the Rust that the port is compared with. See README.md.
-#
-#   LALRPOP_SRC   the folder that holds lalrpop/src (must be given)
-#   ORACLE_OUT    where the build copy goes (default: target/oracle at the top)
-#   CRATES_DIR    Debian's crate sources (default: /usr/share/cargo/registry)
-#   PORT_LIB      a folder with the port's static library (optional)
-#   JOBS          cargo jobs (default: 1)
+# Builds the Rust that the port is compared with (oracle/README.md).
+usage() {
+    cat <<'HELP'
+usage: LALRPOP_SRC=FOLDER sh oracle/build.sh
+
+Builds the Rust that the library is compared with, and the driver that compares them (oracle/README.md).
+
+  LALRPOP_SRC   the folder that holds lalrpop/src (must be given)
+  ORACLE_OUT    where the build copy goes (default: target/oracle at the top)
+  CRATES_DIR    Debian's crate sources (default: /usr/share/cargo/registry)
+  PORT_LIB      a folder with the library's archive, liblihvemur.a (optional)
+  JOBS          cargo jobs (default: 1)
+HELP
+}
+case ${1-} in
+    '') ;;
+    -h | --help) usage; exit 0 ;;
+    *) echo "build.sh: takes no argument" >&2; usage >&2; exit 2 ;;
+esac
 set -eu
 
 here=$(cd "$(dirname "$0")" && pwd)

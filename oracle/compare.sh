@@ -1,7 +1,20 @@
 #!/bin/sh
-# One command for the comparison with the Rust, from a fresh machine: LALRPOP_SRC=FOLDER sh oracle/compare.sh [SEED [COUNT]].
-# Builds the proved library and programs, the Rust beside them, and compares: marked examples, every sort of question in one process, the stored sample, the explaining program byte for byte, the states that are built with bison's, and yacc files with byacc and bison.
-# The last line is 'N passed, 0 failed'.
+# One command for the comparison with the Rust, from a fresh machine.
+usage() {
+    cat <<'HELP'
+usage: LALRPOP_SRC=FOLDER sh oracle/compare.sh [SEED [COUNT]]      (default: 1 200)
+
+Builds the proved library and programs, the Rust beside them, and compares: marked examples, every sort of
+question in one process, the stored sample, the explaining program byte for byte, the states that are built
+with bison's, and yacc files with byacc and bison. The last line is 'N passed, 0 failed'.
+LALRPOP_SRC and other variables: sh oracle/build.sh --help.
+HELP
+}
+case ${1-}${2-} in
+    -h | --help) usage; exit 0 ;;
+    *[!0-9]*) echo "compare.sh: SEED and COUNT are numbers" >&2; usage >&2; exit 2 ;;
+esac
+[ $# -le 2 ] || { echo "compare.sh: too many arguments" >&2; usage >&2; exit 2; }
 set -eu
 cd "$(dirname "$0")/.."
 seed=${1:-1}

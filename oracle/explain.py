@@ -48,6 +48,12 @@ def inputs(oracle, seed, count, states):
 
 
 def main():
+    if sys.argv[1:] in (["-h"], ["--help"]):
+        print(__doc__)
+        return
+    if len(sys.argv) not in (5, 6) or not (sys.argv[3] + sys.argv[4]).isdigit():
+        sys.stderr.write(__doc__ + "\n")
+        sys.exit(2)
     oracle, program, seed, count = sys.argv[1:5]
     states = sys.argv[5] if len(sys.argv) > 5 else None
     passed, failed, classes = 0, 0, {}

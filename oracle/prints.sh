@@ -1,8 +1,19 @@
 #!/bin/sh
-# Classifying with prints made weak on purpose (request 06 of document 02): all equal, and equal where cursor and number of places add up alike. In a copy of the tree the print's two numbers
+# Classifying with prints made weak on purpose: all equal, and equal where cursor and number of places add up alike. In a copy of the tree the print's two numbers
 # are changed, in its definition and in the code; all is proved again, as the proofs ask nothing of a print but that equal readings have equal ones, and the library is compared with the Rust.
-#
-#   LALRPOP_SRC=.. oracle/prints.sh [SEEDS]     seeds 1 to SEEDS of every kind (default 60), and the limits
+usage() {
+    cat <<'HELP'
+usage: LALRPOP_SRC=FOLDER oracle/prints.sh [SEEDS]      (default: 60)
+
+Makes the prints of examples weak in a copy of the tree, proves it again and compares it with the Rust, on
+seeds 1 to SEEDS of every kind and on the limits. LALRPOP_SRC and other variables: sh oracle/build.sh --help.
+HELP
+}
+case ${1-} in
+    -h | --help) usage; exit 0 ;;
+    *[!0-9]*) echo "prints.sh: SEEDS is a number" >&2; usage >&2; exit 2 ;;
+esac
+[ $# -le 1 ] || { echo "prints.sh: too many arguments" >&2; usage >&2; exit 2; }
 set -eu
 
 top=$(cd "$(dirname "$0")/.." && pwd)

@@ -1,7 +1,21 @@
 #!/bin/sh
-# Wrong readings of document 01 (readings/*.edit, edits of the driver's plain reader) against the stored sample: builds the reader with each and prints how many stored
-# answers change. Without an edit none may; with one some must. Needs rustc and python3, not the Rust to compare with. Arguments: names of readings (default: all).
-# Each 'old:' text stands once in its file. The last line is 'N passed, M failed'.
+# Wrong readings of the rules (readings/*.edit, edits of the driver's plain reader) against the stored sample: builds the reader with each and prints how many stored
+# answers change. Without an edit none may; with one some must.
+usage() {
+    cat <<'HELP'
+usage: sh oracle/readings.sh [READING ..]      (default: all)
+
+Tries wrong readings of docs/RULES.md (oracle/readings/READING.edit) against the stored sample: each must
+change some stored answer. Needs rustc and python3, not the Rust to compare with.
+The last line is 'N passed, M failed'.
+HELP
+}
+for word in "$@"; do
+    case $word in
+        -h | --help) usage; exit 0 ;;
+        *) [ -f "$(dirname "$0")/readings/$word.edit" ] || { echo "readings.sh: there is no oracle/readings/$word.edit" >&2; usage >&2; exit 2; } ;;
+    esac
+done
 set -eu
 here=$(cd "$(dirname "$0")" && pwd)
 top=$(dirname "$here")

@@ -19,6 +19,12 @@ def requests(data):
 
 
 def main():
+    if sys.argv[1:] in (["-h"], ["--help"]):
+        print(__doc__)
+        return
+    if len(sys.argv) != 4:
+        sys.stderr.write(__doc__ + "\n")
+        sys.exit(2)
     given, answered, folder = sys.argv[1:]
     with open(given, "rb") as file:
         asked = list(requests(file.read()))

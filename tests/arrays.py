@@ -45,6 +45,7 @@ def ready(crates):
     """Has the libraries stand as their sources are."""
     if all(os.path.isfile(rlib(crate)) for crate in crates) and not glob.glob(TOP + "/crates/*/out/rlib/stamp"):
         return
+    sys.stderr.write("arrays.py: proving and building the libraries; this takes minutes\n")
     said = subprocess.run(["rt", "lib"], cwd="%s/crates/%s" % (TOP, CRATE), stdout=subprocess.PIPE, stderr=subprocess.STDOUT, universal_newlines=True)
     if said.returncode != 0:
         sys.exit(said.stdout + "arrays.py: `rt lib` built no library")
@@ -257,6 +258,14 @@ def selftest(mir):
 
 def main():
     words = sys.argv[1:]
+    if words in (["-h"], ["--help"]):
+        print(__doc__.strip())
+        return
+    if words and words != ["--selftest"] and not (len(words) == 1 and words[0].isdigit()):
+        sys.stderr.write("arrays.py: not understood: %s\n\n%s\n" % (" ".join(words), __doc__.strip()))
+        sys.exit(2)
+    if not shutil.which("rt"):
+        sys.exit("arrays.py: the Rattle kit's rt is not on the PATH")
     crates = libraries()
     ready(crates)
     mir = Mir(crates)

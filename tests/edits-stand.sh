@@ -1,5 +1,17 @@
 #!/bin/sh
 # Each stored edit (crates/NAME/must-fail, crates/NAME/edits) can be applied: every 'old:' text stands exactly once in its file, as `rt must-fail` reads it. Proves nothing.
+case ${1-} in
+    '') ;;
+    -h | --help)
+        echo "usage: tests/edits-stand.sh"
+        echo "Shows that each stored edit can be applied: its old texts stand exactly once in their files."
+        exit 0
+        ;;
+    *)
+        echo "edits-stand.sh: takes no argument" >&2
+        exit 2
+        ;;
+esac
 cd "$(dirname "$0")/.." || exit 1
 find crates -name '*.edit' | sort | awk '
     function fail(m) { print edit ": " m; failed++; bad = 1 }

@@ -1,5 +1,5 @@
-/* Every entry of include/lihvemur.h, called through the static library on table B of document 01: its answers there, one refusal, and the words that a call must leave alone.
- * What the document does not print (trace graphs, edges added, choices) is compared with the stored sample (tests/sample), which has the same questions. */
+/* Every entry of include/lihvemur.h, called through the static library on table B of docs/RULES.md: its answers there, one refusal, and the words that a call must leave alone.
+ * What the page does not print (trace graphs, edges added, choices) is compared with the stored sample (tests/sample), which has the same questions. */
 #include "lihvemur.h"
 
 #include <stdio.h>

@@ -1,4 +1,4 @@
--- What is left stands in the words that were lent. Assumes nothing.
+-- What is left stands in the words that were lent.
 use mathlib.Core.Path.{◌≡◌, sym, ap, ◌∙◌}
 use mathlib.Core.List.{List}
 use Prim.Native.Nat.{ℕ, ◌*◌, ◌≤◌}

@@ -1,4 +1,4 @@
-// Takes back the records of a stream's table that no chain reaches (Req 08): record count, table words, then the rest byte for byte.
+// Takes back the records of a stream's table that no chain reaches (docs/RULES.md, "Unused records"): record count, table words, then the rest byte for byte.
 // A refusal is said in one line on standard error, and nothing is written. A read or a write that fails is said there too and ends the run.
 #![tactic(auto)]
 

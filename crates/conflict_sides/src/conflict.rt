@@ -6,7 +6,7 @@ ghost use Rattle.conflict_sides.specs.conflict.Numbers.{number_of_class, values_
 use lr1_base::lookahead::TokenSet;
 use lr1_base::repr::{NonterminalString, ProductionIndex, StateIndex};
 
-// A conflict as document 01 has it, five words: the action is 0 for a shift, its operand a terminal, or 1 for a reduce, its operand a production. No enum, as any number can be asked and is refused only behind what is wrong with the table.
+// A conflict (docs/RULES.md, "A conflict"), five words: the action is 0 for a shift, its operand a terminal, or 1 for a reduce, its operand a production. No enum, as any number can be asked and is refused only behind what is wrong with the table.
 #[derive(Clone, Copy)]
 pub struct Conflict {
     pub state: StateIndex,
@@ -52,7 +52,7 @@ impl Class {
 
     pub const ALL_WORDS: usize = TokenSet::LIMIT as usize * Class::ENTRY_WORDS;
 
-    // Document 01's number.
+    // Its number (docs/RULES.md, "Classes").
     #[tactic(auto, unfolding(crate::specs::conflict::Numbers::number_of_class))]
     pub fn number(self) -> u16
         ensures { result ≡ number_of_class self }

@@ -1,4 +1,4 @@
-// What a conflict's two sides gather (`shift_examples`, `reduce_examples` of lr1/error/mod.rs), part 8 of document 01, with request 06 of document 02: of every example of each listing an outline, of the first the labels too (module outline), in one pass; and one example of a side made again.
+// What a conflict's two sides gather (`shift_examples`, `reduce_examples` of lr1/error/mod.rs; docs/RULES.md, "Classes"): of every example of each listing an outline, of the first the labels too (module outline), in one pass; and one example of a side made again.
 
 mod viewing;
 

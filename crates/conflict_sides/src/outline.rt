@@ -1,4 +1,4 @@
-// What is kept of an example while a conflict is judged (part 8 of document 01, request 06 of document 02): an outline, of a side's first examples the labels too, and the inline test on two kept labels.
+// What is kept of an example while a conflict is judged (docs/RULES.md, "Classes", "Lent words"): an outline, of a side's first examples the labels too, and the inline test on two kept labels.
 
 ghost use Rattle.std.specs.Prelude.{◌≡◌, ◌+◌, ◌*◌, ◌/◌, ◌%◌, ◌<◌, ◌≤◌, true, IfSome, MatchOption, length, slice_set};
 ghost use Rattle.lr1_base.specs.repr.Sizes.{nonterminal_limit, terminal_limit, production_limit, index_limit, item_limit, labels_room, example_limit, example_room};

@@ -1,4 +1,4 @@
--- The ways through `classify` and `choose`, one law each. Assumes nothing.
+-- The ways through `classify` and `choose`, one law each.
 use mathlib.Core.Path.{◌≡◌}
 use mathlib.Core.List.{List}
 use Prim.Native.Nat.{ℕ}

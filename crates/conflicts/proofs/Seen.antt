@@ -1,4 +1,4 @@
--- The cases of `is_whole_example` and `part_observed`, one for each way through the code; the part is the observed symbols. Assumes nothing.
+-- The cases of `is_whole_example` and `part_observed`, one for each way through the code; the part is the observed symbols.
 use mathlib.Core.Path.{◌≡◌, refl, sym, ap, ◌∙◌}
 use mathlib.Core.Bool.{true, false, ◌&&◌}
 use mathlib.Core.List.{List, []}

@@ -1,4 +1,4 @@
--- What the contracts cite. Assumes nothing.
+-- What the contracts cite.
 pub mod choice
 pub mod class_words
 pub mod classification

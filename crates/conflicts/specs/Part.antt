@@ -1,4 +1,4 @@
--- Which buffer the observed symbols are a part of, part 10 of document 01. Assumes nothing: these are definitions.
+-- Which buffer the observed symbols are a part of (docs/RULES.md, "Observed symbols").
 use Rattle.std.specs.Prelude.{ℕ, ◌*◌, true, false, ◌&&◌, List, get_or, take, drop, leb}
 use Rattle.conflict_sides.specs.conflict.Observed.{is_whole_example}
 use Rattle.conflicts.specs.declared.Part.{Part}

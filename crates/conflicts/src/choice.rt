@@ -1,4 +1,4 @@
-// Choosing which tokens of a conflict to report (`report_errors` of lr1/error/mod.rs without messages) over an accepted table: part 9 of document 01.
+// Choosing which tokens of a conflict to report (`report_errors` of lr1/error/mod.rs without messages) over an accepted table (docs/RULES.md, "Choosing").
 
 mod chosen;
 

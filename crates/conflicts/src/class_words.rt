@@ -1,4 +1,4 @@
-// Classes in words: a token with its class, as choosing (part 9 of document 01) answers it by value.
+// Classes in words: a token with its class, as choosing (docs/RULES.md, "Choosing") answers it by value.
 
 ghost use Rattle.std.specs.Prelude.{◌≡◌, [], ◌∷◌, ◌++◌, ◌+◌, ◌*◌, ◌≤◌, ◌<◌, length, get_or, drop, replicate};
 ghost use Rattle.std.proofs.lemmas.List.Edits.{sets};
@@ -9,7 +9,7 @@ ghost use Rattle.conflicts.specs.class_words.Entries.{class_words, with_entry, c
 
 use conflict_sides::conflict::Class;
 
-// A class in five words: document 01's number, its own values, zeros.
+// A class in five words: its number, its own values, zeros.
 fn number_class(class: Class) -> [u16; Class::WORDS]
     ensures { result ≡ class_words class }
 {

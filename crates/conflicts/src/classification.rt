@@ -1,4 +1,4 @@
-// Classifying a conflict (`classify` of lr1/error/mod.rs) over an accepted table: part 8 of document 01, from 8,000 words (request 06 of document 02).
+// Classifying a conflict (`classify` of lr1/error/mod.rs) over an accepted table: docs/RULES.md, "Classes", from 8,000 words.
 
 ghost use Rattle.std.specs.Prelude.{◌≡◌, true, ◌&&◌, List, ℕ, ◌≤◌, ◌<◌, length, eqb};
 ghost use Rattle.lr1_base.specs.repr.Sizes.{classify_scratch, example_room};

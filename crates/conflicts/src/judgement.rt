@@ -1,4 +1,4 @@
-// The class of a conflict from what is kept of its examples (`classify` and the three `try_classify_` of lr1/error/mod.rs; part 8 of document 01, request 06 of document 02). Of either side the code has what is kept of the examples, and their order: of the action side `actions`, of the reduce side `reduces`.
+// The class of a conflict from what is kept of its examples (`classify` and the three `try_classify_` of lr1/error/mod.rs; docs/RULES.md, "Classes", "Lent words"). Of either side the code has what is kept of the examples, and their order: of the action side `actions`, of the reduce side `reduces`.
 
 ghost use Rattle.std.specs.Prelude.{◌≡◌, false, List, ◌+◌, ◌≤◌, ◌<◌, length, get_or};
 ghost use Rattle.lr1_base.specs.repr.Sizes.{example_room};

@@ -1,4 +1,4 @@
-// Classifying, choosing and the observed symbols for callers (parts 8 to 10 of document 01). Every entry is total, refuses by document 01's table of refusals, and is equated with a definition of error/specs.
+// Classifying, choosing and the observed symbols for callers (docs/RULES.md, "Classes", "Choosing", "Observed symbols"). Every entry is total, refuses by docs/RULES.md, "Refusals", and is equated with a definition of error/specs.
 
 #![tactic(auto)]
 

@@ -1,4 +1,4 @@
-// Opening and stepping a listing, over an accepted table: part 6 of document 01 (`lr0_examples`, `lr1_examples` and the iteration of lr1/trace/trace_graph/mod.rs).
+// Opening and stepping a listing, over an accepted table (`lr0_examples`, `lr1_examples` and the iteration of lr1/trace/trace_graph/mod.rs; docs/RULES.md, "Listing").
 
 ghost use Rattle.std.specs.Prelude.{◌≡◌, true, false, ◌&&◌, ℕ, ◌-◌, ◌≤◌, ◌<◌, length, slice_index};
 ghost use Rattle.lr1_base.specs.repr.Sizes.{scratch_words, trial_limit, example_room};

@@ -1,4 +1,4 @@
-// The search of a listing from one trial handed out to the next (part 6 of document 01; `FilteredPathEnumerator` of lr1/trace/trace_graph/mod.rs): the labels of a trial, the filter, the count of trials.
+// The search of a listing from one trial handed out to the next (docs/RULES.md, "Listing"; `FilteredPathEnumerator` of lr1/trace/trace_graph/mod.rs): the labels of a trial, the filter, the count of trials.
 
 ghost use Rattle.std.specs.Prelude.{◌≡◌, ℕ, ◌-◌, ◌<◌, ◌≤◌, true, List, [], ◌++◌, length, take, drop};
 ghost use Rattle.std.proofs.Math.Option.{some};

@@ -1,4 +1,4 @@
-// A view of a trace graph (request 06): what a listing from one item asks of it, in five small lists, two of them for the labels; the machine that steps from trial to trial over it, in 34 words of a trial.
+// A view of a trace graph: what a listing from one item asks of it, in five small lists, two of them for the labels; the machine that steps from trial to trial over it, in 34 words of a trial.
 
 ghost use Rattle.lr1_base.specs.repr.Sizes.{nonterminal_limit, edge_limit};
 ghost use Rattle.enumerator.specs.graph_view.View.{Bounded, latest_room};

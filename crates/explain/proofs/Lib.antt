@@ -1,2 +1,2 @@
--- The laws that the proofs share. Assumes nothing.
+-- The laws that the proofs share.
 pub mod Whole

@@ -1,4 +1,4 @@
--- Every example that `classify` shows is whole (`Shown` of specs/Printed): it has at most 33 labels, of at most 16 symbols each. Assumes nothing.
+-- Every example that `classify` shows is whole (`Shown` of specs/Printed): it has at most 33 labels, of at most 16 symbols each.
 use Prim.Native.Nat.{ℕ, zero, suc, ◌+◌, ◌≤◌}
 use native.Mathlib.Omega.{arith}
 use mathlib.Core.Path.{◌≡◌, refl}

@@ -1,4 +1,4 @@
--- The input's conflicts, and the lines that are printed of an outcome. Assumes nothing: these are definitions.
+-- The input's conflicts, and the lines that are printed of an outcome.
 use Rattle.std.specs.Prelude.{ℕ, ◌+◌, ◌*◌, ◌≤◌, ◌≡◌, List, length, get_or, take}
 use Rattle.conflict_sides.specs.conflict.Outcome.{Outcome, outcome}
 use Rattle.conflict_sides.specs.declared.conflict.Conflict.{Conflict}

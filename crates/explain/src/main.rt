@@ -1,4 +1,4 @@
-// The explaining program (document 01, Table B and its program run): reads a table and conflicts from standard input as little-endian words, and prints of each conflict its class and the two readings.
+// The explaining program (docs/RULES.md, "The explaining program"): reads a table and conflicts from standard input as little-endian words, and prints of each conflict its class and the two readings.
 // A bad table is said in one line, and nothing more is read. A read or a write that fails is said on standard error and ends the run.
 #![tactic(auto)]
 

@@ -1,5 +1,5 @@
 -- The algebra of answers (specs/First): joining two is associative and FIRST of nothing neutral, for all answers; so FIRST of two joined lists is the two answers
--- joined, for every table. Assumes nothing.
+-- joined, for every table.
 use mathlib.Core.Path.{◌≡◌, refl, sym, ap, ◌∙◌}
 use mathlib.Core.Bool.{true, false, ◌||◌, and-true, and-false}
 use mathlib.Core.List.{List, [], ◌++◌}

@@ -1,4 +1,4 @@
--- Derivations of specs/Derives: one after the other, inside a context, and a production's own. Assumes nothing.
+-- Derivations of specs/Derives: one after the other, inside a context, and a production's own.
 use mathlib.Core.Path.{◌≡◌, refl, ap, ◌∙◌, subst}
 use mathlib.Core.List.{List, [], ◌∷◌, ◌++◌, append_assoc, append-nil, Memᴰ}
 use Rattle.lr1_base.specs.repr.Meaning.{Symbol, nonterminal, Production}

@@ -1,4 +1,4 @@
--- FIRST computed from its definition: table B of document 01, and S → a X where X has no production. Assumes nothing.
+-- FIRST computed from its definition: table B, and S → a X where X has no production.
 use mathlib.Core.Bool.{true, false}
 use mathlib.Core.Path.{◌≡◌, refl}
 use mathlib.Core.List.{[], ◌∷◌}

@@ -1,5 +1,5 @@
--- Laws of `join`, FIRST of two joined lists (part 2 of document 01): what it has, that it is associative with `single e` neutral and grows with both
--- arguments; so `marked_at_end` of joined lists from the two answers, "nullable" asked through one law, and `first1`. Assumes nothing.
+-- Laws of `join`, FIRST of two joined lists (docs/RULES.md, "FIRST"): what it has, that it is associative with `single e` neutral and grows with both
+-- arguments; so `marked_at_end` of joined lists from the two answers, "nullable" asked through one law, and `first1`.
 use mathlib.Core.Path.{◌≡◌, refl, sym, ap, ◌∙◌}
 use mathlib.Core.Bool.{Bool, true, false, ◌&&◌, ◌||◌, not, and-true, and-false, or-true, or-false}
 use mathlib.Core.List.{List, [], ◌∷◌, ◌++◌}

@@ -1,4 +1,4 @@
--- FIRST of two lists of words joined, as the code asks for it. Assumes nothing.
+-- FIRST of two lists of words joined, as the code asks for it.
 use mathlib.Core.Path.{◌≡◌, sym, ap, ◌∙◌}
 use mathlib.Core.List.{List, [], ◌∷◌, ◌++◌}
 use Prim.Native.Nat.{ℕ, ◌-◌, ◌%◌, ◌<◌}

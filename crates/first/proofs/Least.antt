@@ -1,5 +1,5 @@
--- FIRST as the least solution (part 2 of document 01): a round makes sets larger and never smaller, so the rounds come to rest before the fuel of
--- specs/First does; what is reached solves every production, and lies within any other solution. Assumes nothing.
+-- FIRST as the least solution (docs/RULES.md, "FIRST"): a round makes sets larger and never smaller, so the rounds come to rest before the fuel of
+-- specs/First does; what is reached solves every production, and lies within any other solution.
 use mathlib.Core.Path.{◌≡◌, refl, sym, ap, ◌∙◌, subst}
 use mathlib.Core.Bool.{true, false, ◌&&◌}
 use mathlib.Core.List.{List, [], ◌∷◌, ◌++◌, Memᴰ}

@@ -1,4 +1,4 @@
--- The productions in words (specs/repr/Packed of lr1_base) are small enough for the sets to be words of 64 bits. Assumes nothing.
+-- The productions in words (specs/repr/Packed of lr1_base) are small enough for the sets to be words of 64 bits.
 use mathlib.Core.Path.{◌≡◌, refl, ap, ◌∙◌}
 use mathlib.Core.Bool.{true, false}
 use mathlib.Core.List.{List, [], ◌∷◌, ◌++◌, map}

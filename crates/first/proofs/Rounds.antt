@@ -1,5 +1,4 @@
 -- One law for each way through the code of grow_one, grow and FirstSets::new (src/lib): a production, a round, and rounds until one changes nothing.
--- Assumes nothing.
 use mathlib.Core.Path.{◌≡◌, refl, sym, ap, ◌∙◌}
 use mathlib.Core.Bool.{Bool, true, false, ◌&&◌, ◌||◌, not}
 use mathlib.Core.List.{List}

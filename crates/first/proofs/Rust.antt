@@ -1,5 +1,5 @@
 -- The answers of specs/First beside the Rust's sets (specs/Rust), for every table: its set is the terminals with end added for yes; what the filter, the inline
--- test and tracing ask of an answer is what the Rust asks of its set. Assumes nothing.
+-- test and tracing ask of an answer is what the Rust asks of its set.
 use mathlib.Core.Path.{◌≡◌, refl, sym, ap, ◌∙◌}
 use mathlib.Core.Bool.{Bool, true, false, ◌&&◌, not, and-true, and-false, or-true, or-false}
 use mathlib.Core.List.{List}

@@ -1,6 +1,5 @@
--- The Rust's FIRST is the textbook's (part 2 of document 01), for every accepted table: a terminal is in it exactly if the list of symbols derives a
+-- The Rust's FIRST is the textbook's (docs/RULES.md, "FIRST"), for every accepted table: a terminal is in it exactly if the list of symbols derives a
 -- list that begins with it, end exactly if it derives the empty list, and nothing else is in it. No nonterminal need be productive or reachable.
--- Assumes nothing.
 use mathlib.Core.Path.{◌≡◌, refl, sym, ap, ◌∙◌}
 use mathlib.Core.Bool.{true, false, ◌&&◌}
 use mathlib.Core.List.{List, [], ◌∷◌, ◌++◌, Memᴰ}

@@ -1,4 +1,4 @@
--- One law for each way through the code of `end_marked`, `first0`, `first1` and of `Answer` (src/lib), over specs/First: FIRST of a list, symbol by symbol. Assumes nothing.
+-- One law for each way through the code of `end_marked`, `first0`, `first1` and of `Answer` (src/lib), over specs/First: FIRST of a list, symbol by symbol.
 use mathlib.Core.Path.{◌≡◌, sym, ap, ◌∙◌}
 use mathlib.Core.Bool.{Bool, true, false, not}
 use lib.Dec.{eqb}

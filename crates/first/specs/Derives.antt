@@ -1,4 +1,4 @@
--- Derivation of sentential forms (Aho, Sethi, Ullman), from the productions alone. Assumes nothing: these are definitions.
+-- Derivation of sentential forms (Aho, Sethi, Ullman), from the productions alone.
 use Rattle.std.specs.Prelude.{◌≡◌}
 use mathlib.Core.List.{List, ◌∷◌, ◌++◌, Memᴰ}
 use Rattle.lr1_base.specs.repr.Meaning.{Symbol, nonterminal, Production}

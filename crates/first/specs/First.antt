@@ -1,6 +1,6 @@
--- FIRST, part 2 of document 01 (lr1/first), answered as request 04 of document 02 asks: a set of terminals, and whether the list is nullable. A set of tokens
+-- FIRST (docs/RULES.md, "FIRST"; lr1/first): a set of terminals, and whether the list is nullable. A set of tokens
 -- is a number (specs/lookahead/Tokens of lr1_base); e is the end of input. Only the sets of the nonterminals and `marked_at_end`, which makes them, have e in them, as their
--- mark of "nullable": that is no answer. Assumes nothing: these are definitions.
+-- mark of "nullable": that is no answer.
 use Rattle.std.specs.Prelude.{ℕ, zero, suc, ◌*◌, ◌^◌, Bool, true, false, ◌&&◌, ◌||◌, not, List, [], ◌∷◌, get_or, set, replicate, eqb}
 use Rattle.lr1_base.specs.repr.Sizes.{nonterminal_limit}
 use Rattle.lr1_base.specs.words.Same.{same_words}

@@ -1,5 +1,5 @@
 -- FIRST as the Rust has it (lr1/first, lr1/trace, lr1/error): one set, in which the end of input e marks a nullable list; what it asks of such sets.
--- `rust_set` and the laws beside it (proofs/Rust) say how the answers of specs/First stand to it. Assumes nothing: these are definitions.
+-- `rust_set` and the laws beside it (proofs/Rust) say how the answers of specs/First stand to it.
 use Rattle.std.specs.Prelude.{ℕ, Bool, true, false, not, List, eqb}
 use Rattle.lr1_base.specs.repr.Meaning.{Symbol, Table}
 use Rattle.lr1_base.specs.lookahead.Tokens.{has, single, union, meet}

@@ -1,4 +1,4 @@
--- The accuracy rule: accepted tables with the same counts, productions, spans, items in order and edges in order get the same answers, whatever their words. Assumes nothing.
+-- The accuracy rule: accepted tables with the same counts, productions, spans, items in order and edges in order get the same answers, whatever their words.
 use Rattle.std.proofs.Common.{◌≡◌, ℕ, zero, suc, ◌*◌, List, [], ◌∷◌, ◌++◌, length, take, sym, refl, ap, ◌∙◌}
 use Rattle.lr1_base.specs.repr.Reply.{answered, Reply, refused}
 use Rattle.lr1_base.specs.repr.Meaning.{Item, Table}
@@ -122,11 +122,11 @@ module _ (t u : List ℕ) (a : check_of t ≡ Accepted) (b : check_of u ≡ Acce
     choose = choose_same;
   }
 
--- for tables that the rule of Req 02 calls the same
+-- for tables that docs/RULES.md, "One spelling", calls the same
 pub same_answers : (t u : List ℕ) → check_of t ≡ Accepted → check_of u ≡ Accepted → SameTable (meaning t) (meaning u) → SameAnswers t u
 same_answers t u a b s = all_same t u a b (same_is (meaning t) (meaning u) (meaning_ordered t a) (meaning_ordered u b) s)
 
--- and for what `compact` leaves (Req 08): the whole slice, and its front of the records that are left
+-- and for what `compact` leaves (docs/RULES.md, "Unused records"): the whole slice, and its front of the records that are left
 pub compact_same : (t ws : List ℕ) (n : ℕ) → compact_of t ≡ record { answer = answered n; table = ws } → SameAnswers t ws × SameAnswers t (take (4 * n) ws)
 compact_same t ws n e =
     let a = (left t n ws e).accepted in

@@ -1,10 +1,10 @@
--- Every conflict in the list is one that `classify` does not refuse by 1 to 11 on the table that is written. Assumes nothing.
+-- Every conflict in the list is one that `classify` does not refuse by 1 to 11 on the table that is written.
 use mathlib.Core.Path.{◌≡◌, refl, ◌∙◌}
 use mathlib.Core.Bool.{true, false}
-use mathlib.Core.List.{List, Memᴰ}
+use mathlib.Core.List.{List}
 use Prim.Native.Nat.{ℕ, ◌≤◌, ◌<◌}
 use native.Mathlib.Omega.{arith}
-use lib.Dec.{eqb, ltb}
+use lib.Dec.{eqb}
 use lib.ListN.{length}
 use borrow.Author.Tests.{eqb-true, ne_eqb, lt-ltb, le-leb}
 use Rattle.lr1_base.specs.repr.Meaning.{Table}

@@ -1,4 +1,4 @@
--- The ways through the exported functions of a listing, one law each. Assumes nothing.
+-- The ways through the exported functions of a listing, one law each.
 use Rattle.std.proofs.Common.{◌≡◌, ℕ, Bool, true, false, List, refl, sym, ap, ◌∙◌}
 use Rattle.lr1_base.specs.declared.repr.refusals.Refusal.{Refusal}
 use Rattle.lr1_base.specs.repr.Reply.{Reply, answered, refused, reply_of, number_of, place_of}

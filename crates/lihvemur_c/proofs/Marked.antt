@@ -1,4 +1,4 @@
--- Table C traced, its graphs added to and listed: whole outcomes of the definitions that the public contracts cite, each a statement. The expected answers are the Rust's (oracle/README.md). Assumes nothing.
+-- Table C traced, its graphs added to and listed: whole outcomes of the definitions that the public contracts cite, each a statement. The expected answers are the Rust's (oracle/README.md).
 use Rattle.std.proofs.Common.{◌≡◌, ℕ, List, [], ◌∷◌, ◌++◌, replicate, refl}
 use Rattle.lr1_base.specs.repr.Reply.{answered}
 use Rattle.lr1_base.specs.repr.Lists.{up_from, below, mem, occurrences, keep, some?, every?, first?, joined}

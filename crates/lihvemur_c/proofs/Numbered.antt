@@ -1,4 +1,4 @@
--- The ways through the exported functions, one law each. Assumes nothing.
+-- The ways through the exported functions, one law each.
 use Rattle.std.proofs.Common.{◌≡◌, ℕ, Bool, List, Option, None, Some, refl, sym, ap, ◌∙◌}
 use Rattle.std.proofs.lemmas.Option.{none-some, same_Some}
 use Rattle.std.specs.Prelude.{Result, Ok, Err}

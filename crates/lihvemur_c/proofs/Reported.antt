@@ -1,4 +1,4 @@
--- The ways through the exported functions of classifying, one law each. Assumes nothing.
+-- The ways through the exported functions of classifying, one law each.
 use Rattle.std.proofs.Common.{◌≡◌, ◌⊎◌, inl, inr, ℕ, ◌+◌, ◌*◌, ◌<◌, ◌≤◌, leb, List, [], ◌∷◌, ◌++◌, length, get_or, drop, sym, refl, ap, ◌∙◌, arith, le-leb}
 use borrow.Author.Tests.{lt-leb}
 use Rattle.std.specs.Prelude.{Option, None, Some, Result, Ok, Err}

@@ -1,5 +1,5 @@
--- The accuracy rule (Req 02): every public entry that only reads the table answers alike on two tables: answers, classes, examples, counts and lent words.
--- An entry that is added and only reads the table gets its line here. Assumes nothing: these are definitions.
+-- The accuracy rule (docs/RULES.md, "One spelling"): every public entry that only reads the table answers alike on two tables: answers, classes, examples, counts and lent words.
+-- An entry that is added and only reads the table gets its line here.
 use Rattle.std.specs.Prelude.{◌≡◌, ℕ, List, ◌++◌}
 use Rattle.lr1_base.specs.repr.Meaning.{Item}
 use Rattle.trace_graph.specs.declared.TraceEdge.{TraceEdge}

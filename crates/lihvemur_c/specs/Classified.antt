@@ -1,4 +1,4 @@
--- Each conflict of a built table is one that `classify` does not refuse by 1 to 11: what is gathered decides. Assumes nothing: these are definitions.
+-- Each conflict of a built table is one that `classify` does not refuse by 1 to 11: what is gathered decides.
 use Rattle.std.specs.Prelude.{◌≡◌, ℕ, ◌<◌, ◌≤◌, List, length}
 use mathlib.Core.List.{Memᴰ}
 use Rattle.lr1_base.specs.repr.Sizes.{classify_scratch, example_room}

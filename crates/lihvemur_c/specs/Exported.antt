@@ -1,5 +1,4 @@
 -- What the exported functions answer in numbers: 0, or the refusal, whose place stands behind `place`. A number behind another reference changes only with answer 0; lent words are those that the entry leaves.
--- Assumes nothing: these are definitions.
 use Rattle.std.specs.Prelude.{◌≡◌, ℕ, Bool, List, Option, None, Some, Result, MatchResult}
 use Rattle.lr1_base.specs.declared.repr.refusals.Refusal.{Refusal}
 use Rattle.lr1_base.specs.repr.Reply.{answered, refused, Reply, number_of, place_of}

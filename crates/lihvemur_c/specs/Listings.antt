@@ -1,4 +1,4 @@
--- What the exported functions of a listing answer in numbers, as in Exported. Assumes nothing: these are definitions.
+-- What the exported functions of a listing answer in numbers, as in Exported.
 use Rattle.std.specs.Prelude.{ℕ, Bool, true, false, List}
 use Rattle.lr1_base.specs.repr.Reply.{Reply, answered, refused}
 use Rattle.enumerator.specs.trials.Advance.{Outcome, outcome}

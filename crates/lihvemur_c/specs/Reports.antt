@@ -1,4 +1,4 @@
--- What the exported functions of classifying answer in numbers, as in Exported. Assumes nothing: these are definitions.
+-- What the exported functions of classifying answer in numbers, as in Exported.
 use Rattle.std.specs.Prelude.{ℕ, ◌+◌, ◌*◌, true, false, List, [], ◌∷◌, ◌++◌, length, drop, nat_le}
 use Rattle.lr1_base.specs.repr.Sizes.{entry_room, entries_room}
 use Rattle.lr1_base.specs.repr.Lists.{joined}

@@ -1,4 +1,4 @@
--- Table C, marked beside document 01's table B: S is b S b or A A, A is a or nothing (S and A nonterminals 0 and 1, a and b terminals 0 and 1). State 1 stands behind b, state 2 behind b A; in both an A may come to nothing before the next. Assumes nothing: this is a definition.
+-- Table C, marked beside table B: S is b S b or A A, A is a or nothing (S and A nonterminals 0 and 1, a and b terminals 0 and 1). State 1 stands behind b, state 2 behind b A; in both an A may come to nothing before the next.
 use Rattle.std.specs.Prelude.{ℕ, List, [], ◌∷◌}
 
 abbrev pub table_c : List ℕ

@@ -1,4 +1,4 @@
-// Classifying, choosing and the observed symbols for C and Rust (parts 8 to 10 of document 01). A conflict passes as its five numbers.
+// Classifying, choosing and the observed symbols for C and Rust (docs/RULES.md, "Classes", "Choosing", "Observed symbols"). A conflict passes as its five numbers.
 ghost use Rattle.std.specs.Prelude.{◌≡◌, [], ◌∷◌};
 ghost use Rattle.conflict_sides.specs.conflict.Numbers.{values_of_class};
 ghost use Rattle.conflict_sides.specs.conflict.Outcome.{classify_of};

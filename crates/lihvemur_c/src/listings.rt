@@ -1,4 +1,4 @@
-// Listings for C and Rust (part 6 of document 01). A listing passes in its parts: start item, whether it is filtered and by what set, count, and whether it is open.
+// Listings for C and Rust (docs/RULES.md, "Listing"). A listing passes in its parts: start item, whether it is filtered and by what set, count, and whether it is open.
 // A fresh one has count 0 and is open, so that opening hands out nothing but its answer.
 ghost use Rattle.std.specs.Prelude.{◌≡◌};
 ghost use Rattle.enumerator.specs.trials.Advance.{open_of, advance_of};

@@ -1,4 +1,4 @@
--- What the list of calls asks of the output, call by call. Assumes nothing.
+-- What the list of calls asks of the output, call by call.
 use Prim.Native.Nat.{ℕ, suc, ◌+◌, ◌%◌, ◌≤◌, ◌<◌}
 use native.Mathlib.Omega.{arith}
 use mathlib.Core.Path.{◌≡◌, refl, ap, ◌∙◌}

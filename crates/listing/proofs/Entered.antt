@@ -1,4 +1,4 @@
--- The ways through opening and through one call, by the check of the table. Assumes nothing.
+-- The ways through opening and through one call, by the check of the table.
 use Prim.Native.Nat.{ℕ}
 use mathlib.Core.Path.{◌≡◌}
 use mathlib.Core.List.{List}

@@ -1,4 +1,4 @@
--- The ways through `examples`: what applies first is answered, and the calls that are made are answered as the plain lister says. Assumes nothing.
+-- The ways through `examples`: what applies first is answered, and the calls that are made are answered as the plain lister says.
 use Prim.Native.Nat.{ℕ, zero, suc, ◌/◌, ◌≤◌, ◌<◌}
 use mathlib.Core.Path.{◌≡◌, refl, sym, ap, ◌∙◌}
 use mathlib.Core.List.{List, [], ◌++◌}

@@ -1,4 +1,4 @@
--- A list of calls in lent words, and what making them leaves: demand 3 of document 01, in code. Assumes nothing: these are definitions.
+-- A list of calls in lent words, and what making them leaves: a whole list, in code (docs/RULES.md, "A list of calls").
 use Rattle.std.specs.Prelude.{ℕ, zero, suc, ◌+◌, ◌%◌, ◌/◌, Bool, true, false, List, [], ◌∷◌, ◌++◌, map, length, take, drop, leb, ltb, eqb}
 use Rattle.lr1_base.specs.repr.Reply.{Reply, answered, refused}
 use Rattle.lr1_base.specs.repr.Meaning.{Item}

@@ -1,4 +1,4 @@
-// Opening a listing, and moving it on in place (part 6 of document 01). Every entry is total, refuses by document 01's table of refusals, and is equated with a definition.
+// Opening a listing, and moving it on in place (docs/RULES.md, "Listing"). Every entry is total, refuses by docs/RULES.md, "Refusals", and is equated with a definition.
 
 #![tactic(auto)]
 

@@ -1,4 +1,4 @@
--- The ways through the public entries, one law each. Assumes nothing.
+-- The ways through the public entries, one law each.
 use mathlib.Core.Path.{◌≡◌, refl, sym, ◌∙◌}
 use mathlib.Core.Bool.{Bool, true, false, ◌&&◌}
 use mathlib.Core.List.{List, [], ◌∷◌}

@@ -1,4 +1,4 @@
--- The ways through `add_edge` and the two traces, one law each; the words of a graph with an edge added are those of its edges in front of the old words. Assumes nothing.
+-- The ways through `add_edge` and the two traces, one law each; the words of a graph with an edge added are those of its edges in front of the old words.
 use mathlib.Core.Path.{◌≡◌, refl, sym, ap, ◌∙◌}
 use mathlib.Core.Bool.{Bool, true, false}
 use mathlib.Core.List.{List, [], ◌∷◌, ◌++◌}

@@ -1,4 +1,4 @@
--- Request 14 of document 02 (specs/Joining): the laws of putting strings together, for every table, and so for the public entries. Assumes nothing.
+-- Joined lists (docs/RULES.md, "Joined lists"; specs/Joining): the laws of putting strings together, for every table, and so for the public entries.
 use mathlib.Core.Path.{◌≡◌, refl, sym, ap, ◌∙◌}
 use mathlib.Core.Bool.{Bool, true, false, ◌&&◌}
 use mathlib.Core.List.{List, [], ◌∷◌, ◌++◌}
@@ -11,7 +11,7 @@ use Rattle.lr1_base.specs.repr.Reply.{answered, refused}
 use Rattle.lr1_base.specs.repr.Lists.{mem, joined}
 use Rattle.lr1_base.specs.repr.Meaning.{Symbol, Table}
 use Rattle.lr1_base.specs.repr.Listed.{listed}
-use Rattle.lr1_base.proofs.repr.Lists.{mem-cons_here, mem-cons_there, joined_nil, joined_cons, joined_members}
+use Rattle.lr1_base.proofs.repr.Lists.{joined_members}
 use Rattle.lr1_base.proofs.repr.Parts.{length-listed}
 use Rattle.lr1_base.proofs.repr.Joined.{listed-append, fits-append}
 use Rattle.table.specs.Checked.{Checked, Accepted, Refused}

@@ -1,4 +1,4 @@
--- FIRST of a lent list by the public entries' own definitions is the textbook's, for every accepted table (part 2 of document 01). Assumes nothing.
+-- FIRST of a lent list by the public entries' own definitions is the textbook's, for every accepted table (docs/RULES.md, "FIRST").
 use mathlib.Core.Path.{◌≡◌, sym, ap, ◌∙◌}
 use mathlib.Core.Bool.{Bool, true, false, ◌&&◌, not, and-true, and-false}
 use mathlib.Core.List.{List, [], ◌∷◌, Memᴰ}

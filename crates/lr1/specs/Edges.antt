@@ -1,4 +1,4 @@
--- What `add_edge` answers and leaves (part 4 of document 01): answer and graph words. Assumes nothing: these are definitions.
+-- What `add_edge` answers and leaves (docs/RULES.md, "The trace graph"): answer and graph words.
 use Rattle.std.specs.Prelude.{ℕ, true, false, List, length, leb}
 use Rattle.lr1_base.specs.repr.Reply.{Reply, answered, refused}
 use Rattle.lr1_base.specs.repr.Sizes.{edge_limit, graph_room}

@@ -1,5 +1,4 @@
 -- What the public entries answer, refusals included. A table is refused by rows 1 to 8 first; nothing above that speaks of words but through `meaning`.
--- Assumes nothing: these are definitions.
 use Rattle.std.specs.Prelude.{ℕ, suc, ◌^◌, Bool, true, false, ◌&&◌, List, Result, Ok, Err, length, ltb}
 use Rattle.lr1_base.specs.repr.Reply.{Reply, answered, refused, number_of, place_of}
 use Rattle.lr1_base.specs.repr.Meaning.{Table}

@@ -1,4 +1,4 @@
--- Request 14 of document 02, laws for putting strings together, in its order: for every table, all lists of symbols and all answers. Assumes nothing: these are
+-- Laws of joined lists, in the order of docs/RULES.md, "Joined lists": for every table, all lists of symbols and all answers. Assumes nothing: these are
 -- definitions.
 use Rattle.std.specs.Prelude.{ℕ, ◌<◌, ◌≡◌, List, [], ◌++◌, length}
 use Rattle.lr1_base.specs.repr.Reply.{answered}
@@ -11,14 +11,14 @@ use Rattle.state_graph.specs.Walk.{traced_back, merged}
 use Rattle.lr1.specs.Entries.{first0_of, trace_back_of}
 
 pub record Joining (T : Table) : Type 0 where
-  -- "the FIRST answer of two joined lists follows from the answers of the halves alone"
+  -- FIRST of two joined lists follows from the answers of the halves alone
   pub answers : (xs ys : List Symbol) → FIRST T (xs ++ ys) ≡ join_answers (FIRST T xs) (FIRST T ys)
-  -- "the joining is associative"
+  -- the joining is associative
   pub associative : (a b c : Answer) → join_answers (join_answers a b) c ≡ join_answers a (join_answers b c)
-  -- "the answer of the empty list is neutral on both sides"
+  -- the answer of the empty list is neutral on both sides
   pub neutral_left : (a : Answer) → join_answers (FIRST T []) a ≡ a
   pub neutral_right : (a : Answer) → join_answers a (FIRST T []) ≡ a
-  -- "walking back over two joined lists is walking back over the second and, from each state found, over the first, all merged"
+  -- walking back over two joined lists is walking back over the second and, from each state found, over the first, all merged
   pub walks : (s : ℕ) (xs ys : List Symbol) → traced_back T s (xs ++ ys) ≡ merged (joined (λ q. traced_back T q xs) (traced_back T s ys))
 
 -- the same of the public entries, over the words t of any table: where both halves are answered, the joined list is, by the halves' answers

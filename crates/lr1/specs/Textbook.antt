@@ -1,4 +1,4 @@
--- FIRST as the textbook has it (Aho, Sethi, Ullman; part 2 of document 01), from derivations alone. Assumes nothing: these are definitions.
+-- FIRST as the textbook has it (Aho, Sethi, Ullman; docs/RULES.md, "FIRST"), from derivations alone.
 use Rattle.std.specs.Prelude.{ℕ, ◌≤◌, ◌<◌, ◌≡◌, ◌⊎◌, ◌↔◌, true, false, List, [], ◌∷◌}
 use Rattle.lr1_base.specs.repr.Meaning.{Symbol, terminal, Table}
 use Rattle.lr1_base.specs.lookahead.Tokens.{has}

@@ -1,4 +1,4 @@
-// The public surface. Every entry is total, refuses by document 01's table of refusals, and is equated with a definition of specs/Entries, specs/Edges or the specs/Outcome of trace, of spelling, of compaction, of builder, of yacc_read and of yacc_write.
+// The public surface. Every entry is total, refuses by docs/RULES.md, "Refusals", and is equated with a definition of specs/Entries, specs/Edges or the specs/Outcome of trace, of spelling, of compaction, of builder, of yacc_read and of yacc_write.
 // Parameters: table, then numbers, then lent lists.
 
 #![tactic(auto)]
@@ -39,7 +39,7 @@ pub fn check(table: &[u16]) -> Result<AcceptedTable, Refusal>
     table_check::check(table)
 }
 
-// Writes an accepted table afresh in the single spelling of its meaning, at the front of `out` (Req 02), and answers how many records that are. Refusals 1 to 8, then 17 where they
+// Writes an accepted table afresh in the single spelling of its meaning, at the front of `out` (docs/RULES.md, "One spelling"), and answers how many records that are. Refusals 1 to 8, then 17 where they
 // pass 8,192 or the room of `out`; no refusal changes a word.
 pub fn respell(table: &[u16], out: &mut [u16]) -> Result<u16, Refusal>
     ensures { record { answer = reply_of result; out = out.new } ≡ respell_of table.now out.old }
@@ -47,7 +47,7 @@ pub fn respell(table: &[u16], out: &mut [u16]) -> Result<u16, Refusal>
     table_rewrite::spelling::respell(table, out)
 }
 
-// Takes back the records of an accepted table that no chain reaches, in place (Req 08): the reached ones move down, the freed end is 0; answers how many are left.
+// Takes back the records of an accepted table that no chain reaches, in place (docs/RULES.md, "Unused records"): the reached ones move down, the freed end is 0; answers how many are left.
 // Refusals 1 to 8 alone; they change no word.
 pub fn compact(table: &mut [u16]) -> Result<u16, Refusal>
     ensures { record { answer = reply_of result; table = table.new } ≡ compact_of table.old }
@@ -55,7 +55,7 @@ pub fn compact(table: &mut [u16]) -> Result<u16, Refusal>
     table_rewrite::compaction::compact(table)
 }
 
-// Builds the canonical LR(1) states of a grammar, a table of one state without items and edges (Req 01), from a start production: the full table at the front of `out`, its conflicts, five words
+// Builds the canonical LR(1) states of a grammar, a table of one state without items and edges (docs/RULES.md, "Building states"), from a start production: the full table at the front of `out`, its conflicts, five words
 // each, at the front of `conflicts`; answers how many records and how many conflicts. Refusals 1 to 8, 11, 18, then 16 or 17 as states are found; from 16 on scratch is zeroed, as with success.
 pub fn build_states(
     table: &[u16],
@@ -69,7 +69,7 @@ pub fn build_states(
     lr1_tables::build_states(table, start, scratch, out, conflicts)
 }
 
-// Reads the rules of a yacc text (docs/YACC.md) into a grammar, a table of one state without items and edges, at the front of `table` (Req 09), and where each nonterminal and each terminal got its number
+// Reads the rules of a yacc text (docs/YACC.md) into a grammar, a table of one state without items and edges, at the front of `table`, and where each nonterminal and each terminal got its number
 // to the front of `places`; answers how many records, how many places, and the start nonterminal. Refusals 20, 21, 2, 5, 17 in this order; they change no word.
 pub fn read_yacc(text: &[u8], table: &mut [u16], places: &mut [u16]) -> Result<Reading, Refusal>
     ensures { record { answer = reply_of result; table = table.new; places = places.new } ≡ read_of text.now table.old places.old }
@@ -77,7 +77,7 @@ pub fn read_yacc(text: &[u8], table: &mut [u16], places: &mut [u16]) -> Result<R
     yacc_reader::read_yacc(text, table, places)
 }
 
-// Writes the grammar of a table as a yacc text at the front of `text` (Req 09), and answers how many bytes that are. Refusals 1 to 8, then 23 where a nonterminal has no production or the first ones do
+// Writes the grammar of a table as a yacc text at the front of `text` (docs/YACC.md), and answers how many bytes that are. Refusals 1 to 8, then 23 where a nonterminal has no production or the first ones do
 // not ascend, then 17; they change no byte.
 pub fn write_yacc(table: &[u16], text: &mut [u8]) -> Result<u16, Refusal>
     ensures { record { answer = reply_of result; text = text.new } ≡ write_of table.now text.old }
@@ -92,7 +92,7 @@ pub fn first0(table: &[u16], symbols: &[u16]) -> Result<Answer, Refusal>
     first0_joined(table, &symbols[..0], symbols)
 }
 
-// FIRST of two lists joined, which may break a symbol between them (request 14 of document 02).
+// FIRST of two lists joined, which may break a symbol between them (docs/RULES.md, "Joined lists").
 pub fn first0_joined(table: &[u16], xs: &[u16], ys: &[u16]) -> Result<Answer, Refusal>
     ensures { reply_of result ≡ first0_of table.now (xs.now ++ ys.now) }
 {
@@ -153,7 +153,7 @@ pub fn trace_back(table: &[u16], state: StateIndex, symbols: &[u16]) -> Result<S
     trace_back_joined(table, state, &symbols[..0], symbols)
 }
 
-// The same over two lists joined, which may break a symbol between them (request 14 of document 02).
+// The same over two lists joined, which may break a symbol between them (docs/RULES.md, "Joined lists").
 pub fn trace_back_joined(
     table: &[u16],
     state: StateIndex,
@@ -183,7 +183,7 @@ fn trace_back_in(
     }
 }
 
-// Puts an edge, whose label is the item at `index` of `production`, into a graph that the caller lends, unless an equal one is there (part 4 of document 01).
+// Puts an edge, whose label is the item at `index` of `production`, into a graph that the caller lends, unless an equal one is there (docs/RULES.md, "The trace graph").
 pub fn add_edge(
     table: &[u16],
     source: TraceGraphNode,
@@ -237,7 +237,7 @@ fn backtrace(
     trace::trace_in(accepted, traced, graph, scratch)
 }
 
-// The trace of a shift, back from an item in a state (part 5 of document 01): its edges at the front of the graph, whose old words are not looked at. The answer is their number.
+// The trace of a shift, back from an item in a state (docs/RULES.md, "Tracing"): its edges at the front of the graph, whose old words are not looked at. The answer is their number.
 pub fn backtrace_shift(
     table: &[u16],
     state: StateIndex,

@@ -1,4 +1,4 @@
--- `build_canonical`: whatever is answered with a table, the table has the book's states and the list all their conflicts. Assumes nothing.
+-- `build_canonical`: whatever is answered with a table, the table has the book's states and the list all their conflicts.
 use mathlib.Core.Path.{◌≡◌, refl, sym, ap, ◌∙◌}
 use mathlib.Core.Bool.{true, false}
 use mathlib.Core.List.{List, [], ◌++◌}
@@ -159,7 +159,7 @@ module _ (t : List ℕ) (start : ℕ) (scratch out list : List ℕ) where
             (λ g. found q g (outcome (meaning t) start (length out / 4) (length list)) refl (searched q f g))
             (λ g. absurd (apart 18 0 _ (ap (λ (l : Left). l.answer) (build_checked t start scratch out list q _ (in_unfit (meaning t) start scratch out list (ltb-false (length scratch) build_scratch f) _ g refl)) ∙ e))))
 
-    -- Req 01: the table in front of the output has the book's states, the list in front of the other all conflicts
+    -- the table in front of the output has the book's states, the list in front of the other all conflicts
     pub build_canonical : IsCanonical (meaning t) start (take (4 * n) left.out) (take (5 * c) left.conflicts)
     build_canonical =
         let w = answered in

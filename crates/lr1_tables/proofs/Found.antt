@@ -1,4 +1,4 @@
--- The end of the search: its words are the table that is to be written (`laid`), and what is answered is `outcome`. Assumes nothing.
+-- The end of the search: its words are the table that is to be written (`laid`), and what is answered is `outcome`.
 use mathlib.Core.Path.{◌≡◌, refl, sym, ap, ◌∙◌}
 use mathlib.Core.Bool.{true, not}
 use mathlib.Core.List.{List, [], ◌∷◌, map}

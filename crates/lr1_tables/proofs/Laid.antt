@@ -1,4 +1,4 @@
--- The table written region by region (`Laid` of specs/Ended). Assumes nothing.
+-- The table written region by region (`Laid` of specs/Ended).
 use mathlib.Core.Path.{◌≡◌, sym, ◌∙◌}
 use mathlib.Core.List.{List}
 use Prim.Native.Nat.{ℕ, ◌+◌, ◌≤◌}

@@ -1,4 +1,4 @@
--- The ways through `build_of` (specs/Outcome), and refusal 18's test as the code makes it. Assumes nothing.
+-- The ways through `build_of` (specs/Outcome), and refusal 18's test as the code makes it.
 use mathlib.Core.Path.{◌≡◌, refl, sym, ap, ◌∙◌}
 use mathlib.Core.Bool.{Bool, true, false}
 use mathlib.Core.List.{List, [], ◌∷◌, ◌++◌, map}

@@ -1,4 +1,4 @@
--- The table that is written is accepted, means what was built and is its own spelling; its records are those that were counted. Assumes nothing.
+-- The table that is written is accepted, means what was built and is its own spelling; its records are those that were counted.
 use mathlib.Core.Path.{◌≡◌, refl, sym, ap, ◌∙◌}
 use mathlib.Core.List.{List, [], ◌∷◌, map}
 use Prim.Native.Nat.{ℕ, ◌+◌, ◌≤◌, ◌<◌, min}
@@ -97,6 +97,6 @@ module _ (t : List ℕ) (accepted : check_of t ≡ Accepted) (start room words :
   pub build-meaning : meaning (spell (built_table (meaning t) Rs es)) ≡ built_table (meaning t) Rs es
   build-meaning = spell-meaning (built_table (meaning t) Rs es) written-fits written_ordered
 
-  -- its own spelling (Req 02)
+  -- its own spelling (docs/RULES.md, "One spelling")
   pub build_spelling : spell (meaning (spell (built_table (meaning t) Rs es))) ≡ spell (built_table (meaning t) Rs es)
   build_spelling = ap spell build-meaning

@@ -1,4 +1,4 @@
--- What building promises where it answers a table, in the book's terms. Assumes nothing: these are definitions.
+-- What building promises where it answers a table, in the book's terms.
 use Rattle.std.specs.Prelude.{ℕ, ◌<◌, ◌≤◌, true, ◌≡◌, ◌↔◌, length, get_or}
 use mathlib.Core.List.{List, [], map, Memᴰ}
 use Rattle.std.proofs.Math.Option.{some}

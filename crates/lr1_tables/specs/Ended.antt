@@ -1,4 +1,4 @@
--- The search at its end: all states and edges of some start production in words; and the table that is to be written of them. Assumes nothing: these are definitions.
+-- The search at its end: all states and edges of some start production in words; and the table that is to be written of them.
 use Rattle.std.specs.Prelude.{ℕ, ◌+◌, ◌≤◌, ◌<◌, ◌≡◌, List, length, get_or}
 use Rattle.lr1_base.specs.repr.Sizes.{state_limit}
 use Rattle.lr1_base.specs.repr.Meaning.{Table}

@@ -1,4 +1,4 @@
--- What `build_states` answers and leaves in the lent words (Req 01), for every table, start production and buffers. Assumes nothing: these are definitions.
+-- What `build_states` answers and leaves in the lent words (docs/RULES.md, "Building states"), for every table, start production and buffers.
 use Rattle.std.specs.Prelude.{ℕ, ◌/◌, Bool, true, false, ◌&&◌, List, length, eqb, ltb}
 use Rattle.lr1_base.specs.repr.Meaning.{Table, state_at}
 use Rattle.lr1_base.specs.repr.Reply.{Reply, answered, refused}

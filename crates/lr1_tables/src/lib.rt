@@ -1,4 +1,4 @@
-// Building the states of a grammar (request 01): all is found and measured before anything is written.
+// Building the states of a grammar (docs/RULES.md, "Building states"): all is found and measured before anything is written.
 
 #![tactic(auto)]
 

@@ -1,4 +1,4 @@
-// The records of the states found (request 01, fact 15): states, items, edges.
+// The records of the states found (docs/RULES.md, "Building states"): states, items, edges.
 
 ghost use Rattle.std.specs.Prelude.{◌≡◌, map, ◌+◌, ◌-◌, ◌*◌, ◌≤◌, ◌<◌, length};
 ghost use Rattle.lr1_base.specs.repr.Sizes.{record_limit};

@@ -1,4 +1,4 @@
--- The laws that the proofs share. Assumes nothing.
+-- The laws that the proofs share.
 pub mod Laws
 pub mod Numerals
 pub mod Texts

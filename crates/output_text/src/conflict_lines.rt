@@ -1,4 +1,4 @@
-// The lines that the explaining program prints (document 01, its program run), from a conflict's outcome to bytes.
+// The lines that the explaining program prints (docs/RULES.md, "The explaining program"), from a conflict's outcome to bytes.
 ghost use Rattle.std.specs.Prelude.{◌≡◌, ◌++◌, ◌∷◌, [], ◌+◌, ◌*◌, ◌≤◌, ◌<◌, length, get_or, take, drop};
 ghost use Rattle.lr1_base.specs.repr.Sizes.{example_symbols, reduction_room};
 ghost use Rattle.lr1_base.specs.numerals.Numeral.{numeral};

@@ -1,3 +1,3 @@
--- The laws that the proofs share. Assumes nothing.
+-- The laws that the proofs share.
 pub mod Steps
 pub mod Scans

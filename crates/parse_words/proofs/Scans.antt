@@ -1,4 +1,4 @@
--- The words of a text written as bytes: `scan_into`, which goes as the code does, tells what `scan` says. Assumes nothing.
+-- The words of a text written as bytes: `scan_into`, which goes as the code does, tells what `scan` says.
 use Prim.Native.Nat.{ℕ, suc, ◌+◌, ◌*◌, ◌/◌, ◌%◌, ◌≤◌, ◌<◌}
 use native.Mathlib.Nat.{add-zero}
 use native.Mathlib.Omega.{arith}

@@ -1,4 +1,4 @@
--- One byte: a law of `step` for each way through the code, and how far a step goes. Assumes nothing.
+-- One byte: a law of `step` for each way through the code, and how far a step goes.
 use Prim.Native.Nat.{ℕ, ◌+◌, ◌-◌, ◌*◌, ◌≤◌, ◌<◌}
 use native.Mathlib.Omega.{arith}
 use Rattle.std.specs.Option.{unwrap_or}

@@ -1,4 +1,4 @@
--- What the program's own types say in the terms of specs/Text. Assumes nothing: these are definitions.
+-- What the program's own types say in the terms of specs/Text.
 use Rattle.std.specs.Prelude.{ℕ, ◌+◌, ◌*◌, ◌/◌, ◌%◌, ◌≤◌, ◌<◌, Bool, true, false, List, [], ◌∷◌, length, take, set, Option, Some, None, Result, Ok, Err}
 use Rattle.lr1_base.specs.le_words.Little.{encoded}
 use Rattle.parse_words.specs.Text.{Reader, Step, goes, fails, step, Scan, reads, stops}

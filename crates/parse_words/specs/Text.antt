@@ -1,4 +1,4 @@
--- A table typed as text: numbers in decimal, between them any white space, from `#` to the end of the line a comment. Assumes nothing: these are definitions.
+-- A table typed as text: numbers in decimal, between them any white space, from `#` to the end of the line a comment.
 use Rattle.std.specs.Prelude.{ℕ, ◌+◌, ◌-◌, ◌*◌, Bool, true, false, ◌&&◌, ◌||◌, List, [], ◌∷◌, ◌++◌, eqb, leb}
 use Rattle.lr1_base.specs.numerals.Numeral.{is_digit_byte}
 

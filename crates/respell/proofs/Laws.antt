@@ -1,4 +1,4 @@
--- What is written has no more records than a table may. Assumes nothing.
+-- What is written has no more records than a table may.
 use mathlib.Core.Path.{◌≡◌, sym, ap, ◌∙◌}
 use mathlib.Core.List.{List}
 use Prim.Native.Nat.{ℕ, ◌≤◌}

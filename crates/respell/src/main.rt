@@ -1,4 +1,4 @@
-// Writes the table of a stream afresh in the single spelling of its meaning (Req 02): record count, table words, then the rest byte for byte.
+// Writes the table of a stream afresh in the single spelling of its meaning (docs/RULES.md, "One spelling"): record count, table words, then the rest byte for byte.
 // A refusal is said in one line on standard error, and nothing is written. A read or a write that fails is said there too and ends the run.
 #![tactic(auto)]
 

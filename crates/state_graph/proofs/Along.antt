@@ -1,4 +1,4 @@
--- Laws of going along a state's edges: what is left of them says what the whole says. Assumes nothing.
+-- Laws of going along a state's edges: what is left of them says what the whole says.
 use mathlib.Core.Path.{◌≡◌, sym, ap, ◌∙◌}
 use mathlib.Core.Bool.{Bool, true, false, ◌||◌}
 use Prim.Native.Nat.{ℕ, ◌^◌, ◌<◌}

@@ -1,5 +1,5 @@
--- What the state walk of specs/Walk gives (document 01, part 3; acceptance F6, F7): exactly the states with a path, ascending; two lists of symbols joined;
--- two sets joined; a repeated edge. Assumes nothing.
+-- What the state walk of specs/Walk gives (docs/RULES.md, "Walking back"): exactly the states with a path, ascending; two lists of symbols joined;
+-- two sets joined; a repeated edge.
 use mathlib.Core.Path.{◌≡◌, refl, sym, ap, subst, ◌∙◌}
 use mathlib.Core.Bool.{Bool, true, false, ◌&&◌, ◌||◌, true≢false, and-or_distrib_left}
 use mathlib.Core.List.Memᴰ
@@ -117,7 +117,7 @@ module _ (T : Table) where
   pub mem-walk-cons : (ss : List ℕ) (x : Symbol) (xs : List Symbol) (p : ℕ) → mem p (walked_back T ss (x ∷ xs)) ≡ leads T x (walked_back T ss xs) p
   mem-walk-cons ss x xs p = rw (walk-cons ss x xs) (mem-predecessors x (walked_back T ss xs) p)
 
-  -- F6: exactly the states from which a path spells the symbols
+  -- exactly the states from which a path spells the symbols
 
   path_walked : (ss : List ℕ) {p s : ℕ} {xs : List Symbol} → Path T p xs s → mem s ss ≡ true → mem p (walked_back T ss xs) ≡ true
   path_walked ss {s = s} stay h = rw (walk-nil ss) h
@@ -162,7 +162,7 @@ module _ (T : Table) where
   unfolding traced_back
   trace_ascending s xs = walk-ascending (s ∷ []) (λ i j l h. absurd (omega arith)) xs
 
-  -- F7: back over two lists of symbols joined, the second first
+  -- back over two lists of symbols joined, the second first
   pub walk-append : (ss : List ℕ) (xs ys : List Symbol) → walked_back T ss (xs ++ ys) ≡ walked_back T (walked_back T ss ys) xs
   walk-append ss [] ys = sym (walk-nil (walked_back T ss ys))
   walk-append ss (x ∷ xs) ys =

@@ -1,4 +1,4 @@
--- Laws of the hits of specs/Hits. Assumes nothing.
+-- Laws of the hits of specs/Hits.
 use mathlib.Core.Path.{◌≡◌, refl, sym, ap, ◌∙◌}
 use mathlib.Core.Bool.{Bool, true, false, ◌&&◌, ◌||◌, and-false, and-true, or-false}
 use mathlib.Core.List.{List, []}

@@ -1,4 +1,4 @@
--- The walk over two lists of words joined, as the code makes it. Assumes nothing.
+-- The walk over two lists of words joined, as the code makes it.
 use mathlib.Core.Path.{◌≡◌, sym, ap, ◌∙◌}
 use mathlib.Core.List.{List, [], ◌∷◌, ◌++◌}
 use Prim.Native.Nat.{ℕ, ◌-◌, ◌%◌, ◌<◌}

@@ -1,4 +1,4 @@
--- Numbers merged (specs/Walk), and the walk from each state of a set, all merged. Assumes nothing.
+-- Numbers merged (specs/Walk), and the walk from each state of a set, all merged.
 use mathlib.Core.Path.{◌≡◌, sym, ap, ◌∙◌}
 use mathlib.Core.Bool.{Bool, true, false, ◌||◌, and-false}
 use mathlib.Core.List.{List, [], ◌∷◌, ◌++◌}

@@ -1,4 +1,4 @@
--- Laws of the sets of states of specs/States: what each operation has, the states in order, the least and the others. Assumes nothing.
+-- Laws of the sets of states of specs/States: what each operation has, the states in order, the least and the others.
 use mathlib.Core.Path.{◌≡◌, sym, ap, ◌∙◌}
 use mathlib.Core.Bool.{Bool, true, false, ◌&&◌, ◌||◌, and-false, or-false}
 use mathlib.Core.List.{List, [], ◌∷◌, ◌++◌, map}

@@ -1,4 +1,4 @@
--- One step back and the walk: what the code's sets of states are of the walk of specs/Walk, and what is remembered of it (specs/Remembered). Assumes nothing.
+-- One step back and the walk: what the code's sets of states are of the walk of specs/Walk, and what is remembered of it (specs/Remembered).
 use mathlib.Core.Path.{◌≡◌, refl, sym, ap, ◌∙◌, subst}
 use mathlib.Core.Bool.{Bool, true, false, ◌&&◌}
 use mathlib.Core.List.{List, [], ◌∷◌, ◌++◌, append-nil}

@@ -1,4 +1,4 @@
--- The records from which a chain of edges comes to an edge by one symbol into a set of states, as the code keeps them: a bit a record. Assumes nothing: these are definitions.
+-- The records from which a chain of edges comes to an edge by one symbol into a set of states, as the code keeps them: a bit a record.
 use Rattle.std.specs.Prelude.{Option, MatchOption, ℕ, Bool, true, ◌&&◌, ◌||◌, ◌≡◌, List, length, eqb, ltb}
 use Rattle.lr1_base.specs.repr.Lists.{mem, some?}
 use Rattle.lr1_base.specs.repr.Meaning.{Symbol, is_same_symbol, Edge}

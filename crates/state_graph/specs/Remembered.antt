@@ -1,4 +1,4 @@
--- Steps back, as the code keeps them: each of so many places holds none or one that was made. Assumes nothing: these are definitions.
+-- Steps back, as the code keeps them: each of so many places holds none or one that was made.
 use Rattle.std.specs.Prelude.{ℕ, ◌+◌, ◌*◌, ◌<◌, ◌≡◌, true, List, Option, Some, None, length, get_or}
 use Rattle.lr1_base.specs.repr.Sizes.{nonterminal_limit, terminal_limit}
 use Rattle.lr1_base.specs.repr.Meaning.{Table}

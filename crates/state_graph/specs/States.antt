@@ -1,4 +1,4 @@
--- A set of states in two words. Assumes nothing: these are definitions.
+-- A set of states in two words.
 use Rattle.std.specs.Prelude.{ℕ, ◌-◌, Bool, true, false, List, ltb}
 use Rattle.lr1_base.specs.repr.Lists.{below, keep}
 use Rattle.lr1_base.specs.lookahead.Tokens.{has}

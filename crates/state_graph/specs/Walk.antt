@@ -1,4 +1,4 @@
--- The state walk, part 3 of document 01 (lr1/state_graph.rs). Assumes nothing: these are definitions.
+-- The state walk (docs/RULES.md, "Walking back"; lr1/state_graph.rs).
 use Rattle.std.specs.Prelude.{ℕ, suc, ◌+◌, ◌<◌, Bool, ◌&&◌, length, get_or}
 use mathlib.Core.List.{List, [], ◌∷◌, Memᴰ}
 use Rattle.lr1_base.specs.repr.Lists.{below, mem, keep, some?}

@@ -1,4 +1,4 @@
--- What is written has no more records than a table may, and conflicts for which there is room. Assumes nothing.
+-- What is written has no more records than a table may, and conflicts for which there is room.
 use mathlib.Core.Path.{◌≡◌, refl, sym, ap, ◌∙◌, subst}
 use mathlib.Core.Bool.{true}
 use mathlib.Core.List.{List}

@@ -1,4 +1,4 @@
-// Builds the states of a stream's grammar (Req 01): record count, table words, the start production as one word more, the rest. Written are the full table in the same form, its conflicts, five words
+// Builds the states of a stream's grammar (docs/RULES.md, "Building states"): record count, table words, the start production as one word more, the rest. Written are the full table in the same form, its conflicts, five words
 // each as `explain` reads them, and the rest byte for byte. A refusal is said in one line on standard error, and nothing is written; a start production that is missing is out of range.
 // A read or a write that fails is said there too and ends the run.
 #![tactic(auto)]

@@ -1,6 +1,6 @@
--- What an accepted table keeps: sizes, counts, and that no record offends against a row (specs/Refusals). Assumes nothing.
+-- What an accepted table keeps: sizes, counts, and that no record offends against a row (specs/Refusals).
 use mathlib.Core.Path.{◌≡◌, refl}
-use mathlib.Core.Bool.{Bool, true, false, ◌&&◌, ◌||◌, not}
+use mathlib.Core.Bool.{true, false, ◌&&◌, ◌||◌, not}
 use mathlib.Core.List.{List, [], ◌∷◌}
 use mathlib.Core.Option.{Option, none, some}
 use Prim.Native.Nat.{ℕ, ◌+◌, ◌-◌, ◌*◌, ◌%◌, ◌≤◌, ◌<◌}

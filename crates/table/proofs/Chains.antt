@@ -1,4 +1,4 @@
--- Laws of the chains of specs/Words: what a name by the rule gives, that the steps never run out, a chain step by step, its members. Assumes nothing.
+-- Laws of the chains of specs/Words: what a name by the rule gives, that the steps never run out, a chain step by step, its members.
 use mathlib.Core.Path.{◌≡◌, refl, sym, ap, ◌∙◌}
 use mathlib.Core.Bool.{Bool, true, false, ◌&&◌, ◌||◌, not}
 use mathlib.Core.List.{List, [], ◌∷◌}

@@ -1,4 +1,4 @@
--- The definitions compute: document 01's inputs of refusals 1 to 8. Assumes nothing.
+-- The definitions compute: the inputs of refusals 1 to 8 (docs/RULES.md, "Table B").
 use mathlib.Core.Path.{◌≡◌, refl}
 use mathlib.Core.List.{[], ◌∷◌, map}
 use lib.ListN.{set}

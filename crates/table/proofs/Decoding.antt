@@ -1,4 +1,4 @@
--- The meaning of an accepted table (specs/Decoded): its sizes and parts, each production in one nonterminal's list, every number in range. Assumes nothing.
+-- The meaning of an accepted table (specs/Decoded): its sizes and parts, each production in one nonterminal's list, every number in range.
 use mathlib.Core.Path.{◌≡◌, refl, sym, ap, ◌∙◌}
 use mathlib.Core.Bool.{true, false}
 use mathlib.Core.List.{List, [], map}

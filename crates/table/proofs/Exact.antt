@@ -1,5 +1,4 @@
 -- What `check_of` of specs/Refusals answers, both ways, for every list of words: the lowest row that applies and its least offending record, or accepted if none does.
--- Assumes nothing.
 use mathlib.Core.Path.{◌≡◌, refl, sym, ap, ◌∙◌}
 use mathlib.Core.Bool.{Bool, true, false}
 use mathlib.Core.List.{List, [], ◌∷◌}

@@ -1,4 +1,4 @@
--- The records that chains from a number of heads hold, and so what is reached as a symbol, an item, an edge in an accepted table. Assumes nothing.
+-- The records that chains from a number of heads hold, and so what is reached as a symbol, an item, an edge in an accepted table.
 use mathlib.Core.Path.{◌≡◌}
 use mathlib.Core.Bool.{Bool, true, false}
 use mathlib.Core.List.{List}

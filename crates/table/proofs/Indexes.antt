@@ -1,4 +1,4 @@
--- What each accessor reads from an accepted table (specs/Index): the first index of a chain, a record and the index of the next. Assumes nothing.
+-- What each accessor reads from an accepted table (specs/Index): the first index of a chain, a record and the index of the next.
 use mathlib.Core.Path.{◌≡◌, sym, ap, ◌∙◌}
 use mathlib.Core.Bool.{true, false}
 use mathlib.Core.List.{List, [], ◌∷◌, map}

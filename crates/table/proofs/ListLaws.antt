@@ -1,4 +1,4 @@
--- Laws of plain lists that the decoding needs: members of a mapped list, a number in two of the lists joined. Assumes nothing.
+-- Laws of plain lists that the decoding needs: members of a mapped list, a number in two of the lists joined.
 use mathlib.Core.Path.{◌≡◌, sym, ◌∙◌}
 use mathlib.Core.Bool.{true}
 use mathlib.Core.List.{List, [], ◌∷◌, map}

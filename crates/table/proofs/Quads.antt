@@ -1,4 +1,4 @@
--- Laws of records in words: the words of a list of records, a front of them, a record put, and words that are known record by record. Assumes nothing.
+-- Laws of records in words: the words of a list of records, a front of them, a record put, and words that are known record by record.
 use mathlib.Core.Path.{◌≡◌, refl, sym, ap, ◌∙◌}
 use mathlib.Core.List.{List, [], ◌∷◌, map}
 use Prim.Native.Nat.{ℕ, zero, suc, ◌+◌, ◌*◌, ◌/◌, ◌%◌, ◌<◌}

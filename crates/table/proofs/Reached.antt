@@ -1,4 +1,4 @@
--- "Reached as": the relation of specs/Reached by chains, and the tests of specs/Refusals that decide it. Assumes nothing.
+-- "Reached as": the relation of specs/Reached by chains, and the tests of specs/Refusals that decide it.
 use mathlib.Core.Path.{◌≡◌, refl}
 use mathlib.Core.Bool.{true}
 use mathlib.Core.List.{List}

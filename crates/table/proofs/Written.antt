@@ -1,4 +1,4 @@
--- Laws of what the parts of `read_productions` leave in the words (specs/Written). Assumes nothing.
+-- Laws of what the parts of `read_productions` leave in the words (specs/Written).
 use mathlib.Core.Path.{◌≡◌, refl, sym, ap, ◌∙◌}
 use mathlib.Core.Bool.{true, false}
 use mathlib.Core.List.{List, [], ◌∷◌, ◌++◌, map, append_assoc, append-nil}

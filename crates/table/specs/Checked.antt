@@ -1,4 +1,4 @@
--- What the check of a table answers, by document 01's table of refusals: accepted, or the number of a refusal and its place. Assumes nothing: these are definitions.
+-- What the check of a table answers (docs/RULES.md, "Refusals"): accepted, or the number of a refusal and its place.
 use Rattle.std.specs.Prelude.{ℕ, Result, Ok, Err}
 use Rattle.lr1_base.specs.declared.repr.refusals.Refusal.{Refusal}
 use Rattle.lr1_base.specs.repr.Reply.{number_of, place_of}

@@ -1,4 +1,4 @@
--- One decoding of the words into their meaning. Assumes nothing: these are definitions.
+-- One decoding of the words into their meaning.
 use Rattle.std.specs.Prelude.{ℕ, ◌+◌, ◌-◌, List, map}
 use Rattle.std.proofs.Math.Option.{Option, none, some}
 use Rattle.lr1_base.specs.repr.Lists.{below, mem, first?}

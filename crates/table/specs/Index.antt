@@ -1,5 +1,4 @@
 -- What reading an accepted table gives. An index into a chain is 0, or a record that is reached as what the chain holds.
--- Assumes nothing: these are definitions.
 use Rattle.std.specs.Prelude.{ℕ, ◌<◌, true, ◌≡◌, List, ◌∷◌, length}
 use Rattle.lr1_base.specs.repr.Sizes.{record_limit}
 use Rattle.lr1_base.specs.repr.Meaning.{Table, ItemFits, TableFits}

@@ -1,4 +1,4 @@
--- Records of four words, and lists of them as a table's words. Assumes nothing: these are definitions.
+-- Records of four words, and lists of them as a table's words.
 use Rattle.std.specs.Prelude.{ℕ, ◌+◌, ◌*◌, List, [], ◌∷◌, set}
 use Rattle.table.specs.Words.{word_at}
 

@@ -1,5 +1,4 @@
 -- "Reached as" as a relation by chains: what `as_symbol`, `as_item` and `as_edge` of specs/Refusals decide (`reached_is` of proofs/Reached).
--- Assumes nothing: these are definitions.
 use Rattle.std.specs.Prelude.{ℕ, ◌+◌, ◌<◌, Bool, true, ◌≡◌, List}
 use Rattle.lr1_base.specs.repr.Lists.{below, mem, some?}
 use Rattle.table.specs.Words.{word_at, loose_records, names, chain}

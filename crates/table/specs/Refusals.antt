@@ -1,4 +1,4 @@
--- Refusals 1 to 8 of document 01's table, one test for each row and record; `check_of` is what `check` answers. Assumes nothing: these are definitions.
+-- Refusals 1 to 8 (docs/RULES.md, "Refusals"), one test for each row and record; `check_of` is what `check` answers.
 use Rattle.std.specs.Prelude.{ℕ, ◌-◌, ◌%◌, Bool, true, false, ◌&&◌, ◌||◌, not, List, [], ◌∷◌, length, eqb, ltb, leb}
 use Rattle.std.proofs.Math.Option.{none, some}
 use Rattle.lr1_base.specs.repr.Listed.{symbol_is_fit}

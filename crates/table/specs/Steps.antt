@@ -1,4 +1,4 @@
--- A step of an iterator over a chain of an accepted table's records: it reads the record that it is at and goes on to the next, and at 0 it ends. Assumes nothing: these are definitions.
+-- A step of an iterator over a chain of an accepted table's records: it reads the record that it is at and goes on to the next, and at 0 it ends.
 use Rattle.std.specs.Prelude.{Option, MatchOption, ◌≡◌, ◌≢◌}
 use Rattle.table.specs.Index.{ItemRead, EdgeRead, ProductionRead}
 use Rattle.table.specs.declared.ItemRecord.{ItemRecord}

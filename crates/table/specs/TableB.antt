@@ -1,4 +1,4 @@
--- Table B of document 01. Assumes nothing: this is a definition.
+-- Table B of docs/RULES.md.
 use Rattle.std.specs.Prelude.{ℕ, List, [], ◌∷◌}
 
 abbrev pub table_b : List ℕ

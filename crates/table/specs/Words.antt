@@ -1,4 +1,4 @@
--- The table a caller lends, by document 01's first part: records of four words, areas, chains. Assumes nothing: these are definitions.
+-- The table a caller lends (docs/RULES.md, "Words of a table"): records of four words, areas, chains.
 use Rattle.std.specs.Prelude.{ℕ, zero, suc, ◌+◌, ◌*◌, ◌/◌, Bool, true, false, ◌&&◌, not, List, [], ◌∷◌, length, get_or, eqb, ltb, leb}
 
 -- word k of record r

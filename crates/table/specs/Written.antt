@@ -1,5 +1,4 @@
 -- What the parts of `read_productions` leave in the words (specs/repr/Packed of lr1_base): t is the table, g the words before and g' after.
--- Assumes nothing: these are definitions.
 use Rattle.std.specs.Prelude.{ℕ, ◌+◌, ◌*◌, ◌≤◌, ◌<◌, true, ◌≡◌, List, ◌∷◌, map, length, get_or, take, drop}
 use Rattle.lr1_base.specs.repr.Sizes.{record_limit, nonterminal_limit, terminal_limit, production_place, grammar_room}
 use Rattle.lr1_base.specs.repr.Meaning.{Symbol, Table, production_at}

@@ -1,4 +1,4 @@
--- How many chains hold each production: the laws of `bump` over the chains one after the other. Assumes nothing.
+-- How many chains hold each production: the laws of `bump` over the chains one after the other.
 use mathlib.Core.Path.{◌≡◌, refl, sym, ap, ◌∙◌}
 use mathlib.Core.Bool.{true}
 use mathlib.Core.List.{List, [], ◌∷◌, ◌++◌}

@@ -1,4 +1,4 @@
--- The lowest row of one record, by what the record is; and that the length as far as seventeen gives the same first row. Assumes nothing.
+-- The lowest row of one record, by what the record is; and that the length as far as seventeen gives the same first row.
 use mathlib.Core.Path.{◌≡◌, refl, sym, ap, ◌∙◌}
 use mathlib.Core.Bool.{Bool, true, false, ◌&&◌, ◌||◌, not}
 use mathlib.Core.List.{List, [], ◌∷◌}

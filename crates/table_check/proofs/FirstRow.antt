@@ -1,5 +1,4 @@
 -- The two levels of the answer: the least (row, record) over a pass of the records is the first row with an offending record and its least such record.
--- Assumes nothing.
 use mathlib.Core.Path.{◌≡◌, refl, sym, ap, ◌∙◌}
 use mathlib.Core.Bool.{Bool, true, false}
 use mathlib.Core.List.{List, [], ◌∷◌}

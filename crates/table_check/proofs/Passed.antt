@@ -1,4 +1,4 @@
--- The steps of marking: one law for each way through a turn of its loops, and what the marks are where a pass has come. Assumes nothing.
+-- The steps of marking: one law for each way through a turn of its loops, and what the marks are where a pass has come.
 use mathlib.Core.Path.{◌≡◌, sym, ap, ◌∙◌}
 use mathlib.Core.Bool.{Bool, true, false}
 use mathlib.Core.List.{List}

@@ -1,4 +1,4 @@
--- Rows 1 and 2: their cases, and what holds of a table that they let through. Assumes nothing.
+-- Rows 1 and 2: their cases, and what holds of a table that they let through.
 use mathlib.Core.Path.{◌≡◌, refl}
 use mathlib.Core.Bool.{false, not}
 use mathlib.Core.List.{List}

@@ -1,4 +1,4 @@
--- A chain followed record by record: its number of records, and the productions that it holds. Assumes nothing.
+-- A chain followed record by record: its number of records, and the productions that it holds.
 use mathlib.Core.Path.{◌≡◌, sym, ap, ◌∙◌}
 use mathlib.Core.Bool.{true}
 use mathlib.Core.List.{List, [], ◌∷◌}

@@ -1,4 +1,4 @@
--- The ways through the tests of one record, one law for each return. Assumes nothing.
+-- The ways through the tests of one record, one law for each return.
 use mathlib.Core.Path.{◌≡◌, sym, ap, ◌∙◌}
 use mathlib.Core.Bool.{Bool, true, false, ◌||◌}
 use mathlib.Core.List.{List}

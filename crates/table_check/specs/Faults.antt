@@ -1,4 +1,4 @@
--- The lowest row against which one record offends, as the check finds it: by what the record is. Assumes nothing: these are definitions.
+-- The lowest row against which one record offends, as the check finds it: by what the record is.
 use Rattle.std.specs.Prelude.{ℕ, ◌-◌, min, ◌≤◌, ◌<◌, ◌≡◌, Bool, true, false, ◌&&◌, ◌||◌, not, List, [], ◌∷◌, length, eqb, ltb, leb}
 use Rattle.std.proofs.Math.Option.{none, some}
 use Rattle.lr1_base.specs.repr.Sizes.{index_limit}

@@ -1,4 +1,4 @@
--- What the check knows of a table that rows 1 and 2 let through, and what it has gathered. Assumes nothing: these are definitions.
+-- What the check knows of a table that rows 1 and 2 let through, and what it has gathered.
 use Rattle.std.specs.Prelude.{ℕ, ◌+◌, ◌*◌, ◌-◌, min, ◌≤◌, ◌≡◌, List, [], ◌∷◌, length, get_or, set}
 use Rattle.lr1_base.specs.repr.Sizes.{record_limit}
 use Rattle.table.specs.Words.{word_at, records, state_area, production_area, loose, Area}

@@ -1,4 +1,4 @@
--- What the parts of the check hold while it works. Assumes nothing: these are definitions.
+-- What the parts of the check hold while it works.
 use Rattle.std.specs.Prelude.{ℕ, ◌+◌, min, ◌<◌, false, ◌≡◌, List, length, get_or}
 use Rattle.lr1_base.specs.repr.Sizes.{index_limit}
 use Rattle.lr1_base.specs.repr.Lists.{below, occurrences, joined}

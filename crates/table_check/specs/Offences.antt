@@ -1,4 +1,4 @@
--- The best so far of the pass over the records, as specs/Faults has it. Assumes nothing: these are definitions.
+-- The best so far of the pass over the records, as specs/Faults has it.
 use Rattle.std.specs.Prelude.{ℕ, Option, None, Some}
 use Rattle.table_check.specs.Rows.{number_of_row}
 use Rattle.table_check.specs.declared.scan.Offence.{Offence}

@@ -1,4 +1,4 @@
--- What the marks, a flag for each record, hold after some heads and some records are passed. Assumes nothing: these are definitions.
+-- What the marks, a flag for each record, hold after some heads and some records are passed.
 use Rattle.std.specs.Prelude.{ℕ, ◌+◌, ◌*◌, ◌<◌, ◌≤◌, true, ◌≡◌, List, length, replicate}
 use Rattle.lr1_base.specs.bits.Bits.{bit_at}
 use Rattle.table.specs.Words.{word_at, records, states, productions, state_area, production_area, loose_records, names}

@@ -1,4 +1,4 @@
--- A row of the code as its number in document 01's table; 0 is none. Assumes nothing: these are definitions.
+-- A row of the code as its number among the refusals (docs/RULES.md, "Refusals"); 0 is none.
 use Rattle.std.specs.Prelude.{ℕ, Option, None, Some}
 use Rattle.table_check.specs.declared.fault.Row.{Row}
 use Rattle.table_check.specs.declared.fault.Row.TheVariants.{Chain, Owner, TooLong, Symbol, Target, Spare}

@@ -7,7 +7,7 @@ use crate::areas::Record;
 use crate::loose::Roles;
 use lr1_base::repr::ProductionIndex;
 
-// The rows of document 01's table that speak of one record, in their order.
+// The refusals that speak of one record, in their order.
 #[derive(Clone, Copy, PartialEq, Eq, PartialOrd, Ord)]
 pub enum Row {
     Chain = 3,

@@ -1,4 +1,4 @@
-// The check of a lent table: refusals 1 to 8 of document 01, with number and place.
+// The check of a lent table: refusals 1 to 8 with number and place (docs/RULES.md, "Refusals").
 
 #![tactic(auto)]
 

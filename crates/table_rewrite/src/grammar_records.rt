@@ -1,4 +1,4 @@
-// The records of a grammar, written from its packed productions (request 01, facts 15 and 16): record 0, nonterminals, productions, symbols.
+// The records of a grammar, written from its packed productions (docs/RULES.md, "Building states"): record 0, nonterminals, productions, symbols.
 
 ghost use Rattle.std.specs.Prelude.{◌≡◌, true, map, ◌+◌, ◌≤◌, ◌<◌, MatchOption, length};
 ghost use Rattle.lr1_base.specs.repr.Sizes.{record_limit, nonterminal_limit, terminal_limit};

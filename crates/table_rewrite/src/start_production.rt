@@ -1,4 +1,4 @@
-// A start production for a grammar (request 09): of a nonterminal that stands in no right side and has no other production (specs/start_production/Started).
+// A start production for a grammar (docs/YACC.md): of a nonterminal that stands in no right side and has no other production (specs/start_production/Started).
 
 ghost use Rattle.std.specs.Prelude.{◌≡◌, true, false, [], MatchOption, ◌∷◌, ◌++◌, ◌+◌, ◌<◌};
 ghost use Rattle.lr1_base.specs.repr.Reply.{reply_of};

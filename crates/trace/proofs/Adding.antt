@@ -1,4 +1,4 @@
--- The edges that tracing adds, in one word each. Assumes nothing.
+-- The edges that tracing adds, in one word each.
 use Rattle.std.proofs.Common.{◌≡◌, ℕ, ◌<◌, Bool, true, false, eqb, length, sym, ap, arith, eqb-true}
 use borrow.Author.Tests.{eqb-false}
 use Rattle.lr1_base.specs.repr.Meaning.{Item, Table, TableFits, ItemFits}

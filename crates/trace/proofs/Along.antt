@@ -1,4 +1,4 @@
--- The items of slots one after the other (specs/Tails). Assumes nothing.
+-- The items of slots one after the other (specs/Tails).
 use Rattle.std.proofs.Common.{◌≡◌, ℕ, zero, suc, ◌+◌, ◌<◌, ◌≤◌, List, [], ◌∷◌, ◌++◌, get_or, take, sym, refl, ap, ◌∙◌, arith}
 use Rattle.lr1_base.specs.repr.Meaning.{Item}
 use Rattle.table.specs.Decoded.{items_from}

@@ -1,4 +1,4 @@
--- A trace begun: no edge, no flag, no pair; and the states in which an item begins. Assumes nothing.
+-- A trace begun: no edge, no flag, no pair; and the states in which an item begins.
 use Rattle.std.proofs.Common.{◌≡◌, ℕ, ◌*◌, ◌<◌, ◌≤◌, true, List, [], length, take, replicate, sym, refl, ap, ◌∙◌}
 use Rattle.lr1_base.specs.repr.Lists.{mem}
 use Rattle.lr1_base.specs.repr.Meaning.{Production, Table, ItemFits}

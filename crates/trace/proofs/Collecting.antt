@@ -1,4 +1,4 @@
--- The items of a tail put into slots, each once (specs/Tails): the loop of `collect`. An item whose flag is set is in a slot, so that it changes nothing after the slots. Assumes nothing.
+-- The items of a tail put into slots, each once (specs/Tails): the loop of `collect`. An item whose flag is set is in a slot, so that it changes nothing after the slots.
 use Rattle.std.proofs.Common.{◌≡◌, ℕ, zero, suc, ◌+◌, ◌-◌, ◌*◌, ◌/◌, ◌<◌, ◌≤◌, Bool, true, false, ◌||◌, eqb, ltb, List, [], ◌∷◌, ◌++◌, length, get_or, take, set, replicate, sym, refl, ap, ◌∙◌, true≢false, append_assoc, arith, length-set, get_or-set_other, get_or-set_same, ltb-false, ltb-true, eqb-true}
 use Rattle.std.specs.Prelude.{Option, Some, None, MatchOption, is_some, not}
 use mathlib.Core.Bool.{or-true}

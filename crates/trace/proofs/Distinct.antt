@@ -1,4 +1,4 @@
--- Laws of lists of items: what keeping keeps, and an item's code. Assumes nothing.
+-- Laws of lists of items: what keeping keeps, and an item's code.
 use Rattle.std.proofs.Common.{◌≡◌, ◌+◌, ◌*◌, ◌/◌, ◌%◌, ◌<◌, Bool, true, List, [], ◌∷◌, ap, ◌∙◌, arith}
 use mathlib.Core.List.Memᴰ
 use mathlib.Core.List.{Memᴰ}

@@ -1,4 +1,4 @@
--- Laws of the flags of suffixes that may derive the empty string (specs/Ends), and of an item's words among the packed productions. Assumes nothing.
+-- Laws of the flags of suffixes that may derive the empty string (specs/Ends), and of an item's words among the packed productions.
 use Rattle.std.proofs.Common.{◌≡◌, ℕ, zero, suc, ◌+◌, ◌*◌, ◌/◌, ◌<◌, ◌≤◌, Bool, true, false, ltb, leb, List, [], ◌∷◌, length, get_or, take, drop, replicate, sym, refl, ap, ◌∙◌, arith, ltb-true, lt-ltb, leb-true}
 use native.Mathlib.Decide.{dec_lt}
 use lib.ListN.{length-replicate}

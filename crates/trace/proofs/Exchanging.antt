@@ -1,4 +1,4 @@
--- Two lists that change places word by word, and with them the lists of two tails (specs/Tails). Assumes nothing.
+-- Two lists that change places word by word, and with them the lists of two tails (specs/Tails).
 use Rattle.std.proofs.Common.{◌≡◌, ℕ, zero, suc, ◌+◌, ◌<◌, ◌≤◌, List, [], ◌∷◌, ◌++◌, length, get_or, take, drop, set, replicate, sym, refl, ◌∙◌, append-nil, arith, drop_of_length-le, take_all}
 use lib.ListN.{length-replicate}
 use Rattle.lr1_base.proofs.words.Copy.{copy_more}

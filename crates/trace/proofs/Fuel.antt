@@ -1,5 +1,5 @@
 -- The fuel of tracing never cuts: of two numbers above the pairs that are left each gives the same trace, so `pairs` of specs/Traced gives what any larger number would, and each trace
--- is its own turn with no fuel to count (`epsilon-turn`, `reduce-turn`). Assumes nothing.
+-- is its own turn with no fuel to count (`epsilon-turn`, `reduce-turn`).
 use Rattle.std.proofs.Common.{◌≡◌, ℕ, zero, suc, ◌<◌, ◌≤◌, true, ltb, List, [], ◌∷◌, length, sym, refl, ap, ◌∙◌, arith}
 use mathlib.Core.List.{Memᴰ}
 use native.Mathlib.Decide.{dec_lt}

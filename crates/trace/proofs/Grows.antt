@@ -1,5 +1,5 @@
 -- Tracing only adds: the edges of a step's result begin with those that were there, and its entered pairs end with those that were there. So what is there stays there, the number of
--- edges never falls, and the pairs that are left never rise. The clauses of both traces (specs/Shift, specs/Reduce) stand here as laws. Assumes nothing.
+-- edges never falls, and the pairs that are left never rise. The clauses of both traces (specs/Shift, specs/Reduce) stand here as laws.
 use Rattle.std.proofs.Common.{◌≡◌, ℕ, zero, suc, ◌<◌, ◌≤◌, Bool, true, false, ltb, List, [], ◌∷◌, ◌++◌, length, sym, refl, ap, ◌∙◌, append_assoc, append-nil, arith, length-append}
 use mathlib.Core.Bool.{or-true}
 use Rattle.lr1_base.specs.repr.Lists.{mem, some?}

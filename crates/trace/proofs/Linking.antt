@@ -1,4 +1,4 @@
--- The slots of a listed tail, linked from the last on, and the two lists filled (specs/Tails). Assumes nothing.
+-- The slots of a listed tail, linked from the last on, and the two lists filled (specs/Tails).
 use Rattle.std.proofs.Common.{◌≡◌, ℕ, suc, ◌-◌, ◌<◌, ◌≤◌, Bool, true, false, eqb, List, ◌∷◌, length, get_or, set, sym, refl, ap, ◌∙◌, arith, length-set, get_or-set_other, get_or-set_same, eqb-true, eq-eqb}
 use borrow.Author.Tests.{eqb-false}
 use Rattle.lr1_base.specs.repr.Meaning.{Item}

@@ -1,4 +1,4 @@
--- The traces of table B of document 01, computed from their definitions: the shift of + and both reductions in state 3, and the shift of n in state 2. Assumes nothing.
+-- The traces of table B, computed from their definitions: the shift of + and both reductions in state 3, and the shift of n in state 2.
 use Rattle.std.proofs.Common.{◌≡◌, ℕ, true, List, [], ◌∷◌, map, refl}
 use Rattle.lr1_base.specs.words.Same.{same_words}
 use Rattle.lr1_base.specs.repr.Lists.{up_from, below, mem, keep, some?, every?, joined}

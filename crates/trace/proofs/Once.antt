@@ -1,17 +1,14 @@
 -- Laws of adding an edge to a trace graph (specs/Graph of trace_graph): sameness of edges is an equivalence, an edge that is there is not added again, what is there stays, and no edge
--- comes to stand twice (`once` of its specs/Fits). Assumes nothing.
-use Rattle.std.proofs.Common.{◌≡◌, Bool, true, false, not, ◌&&◌, ◌||◌, eqb, List, [], ◌∷◌, ◌++◌, sym, refl, ap, ◌∙◌, true≢false, append-nil, eq-eqb, eqb-true}
+-- comes to stand twice (`once` of its specs/Fits).
+use Rattle.std.proofs.Common.{◌≡◌, Bool, true, false, not, ◌&&◌, ◌||◌, List, [], ◌∷◌, ◌++◌, sym, refl, ap, ◌∙◌, true≢false, append-nil, eq-eqb}
 use mathlib.Core.Bool.{or-false, or-true}
-use mathlib.Core.Option.{Option, none, some}
 use Rattle.lr1_base.specs.repr.Lists.{some?}
-use Rattle.lr1_base.specs.repr.Meaning.{Symbol, is_same_symbol, Item, Production, All}
+use Rattle.lr1_base.specs.repr.Meaning.{Item, Production, All}
 use Rattle.lr1_base.proofs.repr.Lists.{cases, clash}
 use Rattle.lr1_base.proofs.repr.Tests.{some?-nil, some?-yes, some?_no, some?-cons, some?-append}
-use Rattle.lr1_base.proofs.repr.SameSymbol.{same_equal, same_refl}
-use Rattle.lr1_base.specs.item.Items.{Sets}
-use Rattle.trace_graph.specs.Graph.{Node, at_nonterminal, at_item, same_item, is_same_node, TraceEdge, label_of, same_symbols, same_cursor, same_sets, is_same_edge, add}
+use Rattle.trace_graph.specs.Graph.{same_item, is_same_node, TraceEdge, label_of, same_sets, is_same_edge, add}
 use Rattle.trace_graph.specs.Fits.{once}
-use Rattle.trace_graph.proofs.Labels.{node_equal, cursor_equal, node_refl, symbols_equal, symbols_refl, cursor_refl, sets_equal, sets_refl}
+use Rattle.trace_graph.proofs.Labels.{node_equal, node_refl, sets_equal, sets_refl}
 use Rattle.lr1_base.proofs.laws.Bools.{agree, and-true}
 
 -- items, nodes and labels that are the same are equal

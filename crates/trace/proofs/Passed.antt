@@ -1,4 +1,4 @@
--- A state whose items lead to nothing new (specs/Passed): its epsilon step adds no edge, and the edges of a shift trace are the same without it (`left_out`). Assumes nothing.
+-- A state whose items lead to nothing new (specs/Passed): its epsilon step adds no edge, and the edges of a shift trace are the same without it (`left_out`).
 use Rattle.std.proofs.Common.{◌≡◌, ℕ, zero, suc, ◌<◌, Bool, true, false, eqb, ltb, List, [], ◌∷◌, length, sym, refl, ap, ◌∙◌, arith, ltb-false, ltb-true, ne_eqb}
 use mathlib.Core.List.{Memᴰ}
 use Rattle.lr1_base.specs.repr.Lists.{mem, some?}

@@ -1,4 +1,4 @@
--- The test whether a state's items lead to nothing new (specs/Passed): of one item, and of a chain from the front. Assumes nothing.
+-- The test whether a state's items lead to nothing new (specs/Passed): of one item, and of a chain from the front.
 use Rattle.std.proofs.Common.{◌≡◌, ℕ, zero, suc, ◌+◌, ◌*◌, ◌<◌, true, false, eqb, List, [], ◌∷◌, length, get_or, drop, sym, refl, ap, ◌∙◌, arith, ltb-false, eqb-true}
 use Rattle.lr1_base.specs.repr.Sizes.{production_limit, index_limit}
 use Rattle.lr1_base.specs.repr.Lists.{some?}

@@ -1,4 +1,4 @@
--- Gone along a chain whose tail may be listed (specs/Tails): what is left at a place, and the place after it. Assumes nothing.
+-- Gone along a chain whose tail may be listed (specs/Tails): what is left at a place, and the place after it.
 use Rattle.std.proofs.Common.{◌≡◌, ℕ, zero, suc, ◌+◌, ◌-◌, ◌<◌, ◌≤◌, true, false, eqb, List, [], ◌∷◌, ◌++◌, length, get_or, take, sym, refl, ap, ◌∙◌, arith, eqb-true}
 use borrow.Author.Tests.{eqb-false}
 use Rattle.lr1_base.specs.repr.Meaning.{Item}

@@ -1,4 +1,4 @@
--- The two steps of `backtrace_reduce` over words with an edge a word (specs/Stamps): what is left of a turn gives what the whole gives; one law for each way through the code. Assumes nothing.
+-- The two steps of `backtrace_reduce` over words with an edge a word (specs/Stamps): what is left of a turn gives what the whole gives; one law for each way through the code.
 use Rattle.std.proofs.Common.{◌≡◌, ℕ, zero, suc, ◌+◌, ◌*◌, ◌<◌, ◌≤◌, Bool, true, false, List, [], ◌∷◌, length, sym, refl, ap, ◌∙◌, subst, arith}
 use Rattle.lr1_base.specs.repr.Meaning.{Item, Table, TableFits, ItemFits, state_at}
 use Rattle.first.specs.First.{nullable}

@@ -1,5 +1,5 @@
--- A repeated item of a state adds nothing (acceptance R7): the turn of a trace over a state's items is the turn over those that can shift the nonterminal, each once (`shifting` of
--- specs/Shifting). An item that cannot shift it changes nothing; an item met before changes nothing, since its edges are there and the pairs that it leads to are entered. Assumes nothing.
+-- A repeated item of a state adds nothing: the turn of a trace over a state's items is the turn over those that can shift the nonterminal, each once (`shifting` of
+-- specs/Shifting). An item that cannot shift it changes nothing; an item met before changes nothing, since its edges are there and the pairs that it leads to are entered.
 use Rattle.std.proofs.Common.{◌≡◌, ℕ, zero, suc, Bool, true, false, eqb, ltb, List, [], ◌∷◌, sym, refl, ap, ◌∙◌, arith, eqb-true}
 use Rattle.lr1_base.specs.repr.Lists.{mem, some?, keep}
 use Rattle.lr1_base.specs.repr.Meaning.{Item, Table, state_at}
@@ -178,7 +178,7 @@ module _ (T : Table) where
     };
   }
 
-  -- R7, at any fuel
+  -- so at any fuel
   pub epsilon-distinct : (f s n : ℕ) (st : Trace)
       → in_turn (epsilon_item T n (λ m u. epsilon T f s m u)) (shifting T s n) st ≡ in_turn (epsilon_item T n (λ m u. epsilon T f s m u)) (state_at T s).items st
   epsilon-distinct f s n st =
@@ -326,7 +326,7 @@ module _ (T : Table) where
     };
   }
 
-  -- R7, at any fuel
+  -- so at any fuel
   pub reduce_distinct : (f s n : ℕ) (st : Trace)
       → in_turn (reduce_state_item T n (λ i u. item_of_reduce T (λ p m v. state_of_reduce T f p m v) s i u)) (shifting T s n) st
       ≡ in_turn (reduce_state_item T n (λ i u. item_of_reduce T (λ p m v. state_of_reduce T f p m v) s i u)) (state_at T s).items st

@@ -1,4 +1,4 @@
--- Laws of the measure of tracing (specs/Seen): a pair that is entered for the first time takes one from it; pairs in range have numbers of their own, below 4,096. Assumes nothing.
+-- Laws of the measure of tracing (specs/Seen): a pair that is entered for the first time takes one from it; pairs in range have numbers of their own, below 4,096.
 use Rattle.std.proofs.Common.{◌≡◌, ℕ, zero, suc, ◌<◌, ◌≤◌, true, false, eqb, List, [], ◌∷◌, ◌++◌, sym, refl, ap, ◌∙◌, arith, eq-eqb, ne_eqb, eqb-true}
 use borrow.Author.Tests.{eqb-false}
 use Rattle.lr1_base.specs.repr.Lists.{mem}

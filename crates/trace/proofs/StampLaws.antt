@@ -1,4 +1,4 @@
--- Laws of stamps (specs/Stamps): what is read after one is put; that they stay right while a trace grows; and that an item which was traced on may be stamped. Assumes nothing.
+-- Laws of stamps (specs/Stamps): what is read after one is put; that they stay right while a trace grows; and that an item which was traced on may be stamped.
 use Rattle.std.proofs.Common.{◌≡◌, ℕ, zero, suc, ◌+◌, ◌*◌, ◌/◌, ◌%◌, ◌<◌, ◌≤◌, Bool, true, false, eqb, List, length, get_or, set, replicate, sym, refl, ap, ◌∙◌, arith, get_or-set_other, get_or-set_same, eq-eqb, ne_eqb, eqb-true}
 use borrow.Author.Tests.{eqb-false}
 use Rattle.lr1_base.specs.repr.Sizes.{index_limit}

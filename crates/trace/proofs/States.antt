@@ -1,4 +1,4 @@
--- The states that a walk found, traced in turn or passed over. Assumes nothing.
+-- The states that a walk found, traced in turn or passed over.
 use Rattle.std.proofs.Common.{◌≡◌, ℕ, zero, suc, ◌+◌, ◌*◌, ◌<◌, ◌≤◌, true, false, eqb, List, [], ◌∷◌, length, replicate, sym, refl, ap, ◌∙◌, arith, eqb-true}
 use Rattle.std.specs.Prelude.{Option, Some, None, IfSome}
 use Rattle.lr1_base.specs.repr.Sizes.{state_limit}

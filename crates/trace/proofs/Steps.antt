@@ -1,4 +1,4 @@
--- The steps of both traces, as code takes them: what each adds, and that no step takes an edge away. Assumes nothing.
+-- The steps of both traces, as code takes them: what each adds, and that no step takes an edge away.
 use Rattle.std.proofs.Common.{◌≡◌, ℕ, ◌<◌, ◌≤◌, List, length, get_or, ap, arith, le-ltb, lt-ltb}
 use Rattle.lr1_base.specs.repr.Sizes.{production_place, edge_limit}
 use Rattle.lr1_base.specs.repr.Meaning.{Item, Production, no_production, Table}

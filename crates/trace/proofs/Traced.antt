@@ -1,4 +1,4 @@
--- What holds of every accepted trace (acceptance R6, `Sound` of specs/Sound), of both traces of any item in range from any state. Assumes nothing.
+-- What holds of every accepted trace (`Sound` of specs/Sound), of both traces of any item in range from any state.
 use Rattle.std.proofs.Common.{◌≡◌, ℕ, zero, suc, ◌<◌, Bool, true, false, ltb, leb, List, [], ◌∷◌, ◌++◌, length, sym, refl, ap, ◌∙◌, inl, inr, arith, ltb-false, ltb-true, lt-ltb, le-leb, leb-true}
 use mathlib.Core.List.Memᴰ
 use mathlib.Core.List.{Memᴰ}

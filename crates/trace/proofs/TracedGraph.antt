@@ -1,4 +1,4 @@
--- Of every accepted trace, the lent buffer as `shift_of` and `reduce_of` leave it (`Traced` of specs/TracedGraph). Assumes nothing.
+-- Of every accepted trace, the lent buffer as `shift_of` and `reduce_of` leave it (`Traced` of specs/TracedGraph).
 use Rattle.std.proofs.Common.{◌≡◌, ℕ, ◌≤◌, true, ◌&&◌, ltb, leb, List, length, drop, refl, ap, ◌∙◌, arith, length-append, length-drop, leb-true}
 use Rattle.lr1_base.specs.repr.Reply.{answered, refused}
 use Rattle.lr1_base.specs.repr.Sizes.{edge_limit, graph_room, scratch_words}

@@ -1,4 +1,4 @@
--- A pair entered, and the turn over a state's items (specs/Held). Assumes nothing.
+-- A pair entered, and the turn over a state's items (specs/Held).
 use Rattle.std.proofs.Common.{◌≡◌, ℕ, zero, suc, ◌+◌, ◌*◌, ◌/◌, ◌<◌, ◌≤◌, true, false, eqb, ltb, List, [], ◌∷◌, length, get_or, sym, refl, ap, ◌∙◌, arith, ltb-false, ltb-true, le-ltb, lt-ltb, eqb-true}
 use borrow.Author.Tests.{eqb-false}
 use Rattle.lr1_base.specs.repr.Lists.{mem}

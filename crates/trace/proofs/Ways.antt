@@ -1,4 +1,4 @@
--- The ways through a trace: refusals 9, 11 and 12, and the graph handed over. Assumes nothing.
+-- The ways through a trace: refusals 9, 11 and 12, and the graph handed over.
 use Rattle.std.proofs.Common.{◌≡◌, ℕ, ◌<◌, ◌≤◌, Bool, true, false, ◌&&◌, ltb, leb, List, ◌++◌, length, get_or, drop, sym, refl, ap, ◌∙◌, le-ltb, lt-ltb, le-leb}
 use borrow.Author.Tests.{lt-leb}
 use Rattle.lr1_base.specs.repr.Reply.{answered, refused}

@@ -1,4 +1,4 @@
--- The item step begun over nothing, with fuel enough, is the whole reduce trace. Assumes nothing.
+-- The item step begun over nothing, with fuel enough, is the whole reduce trace.
 use Rattle.std.proofs.Common.{◌≡◌, ℕ, ◌<◌, ◌≤◌, List, length, replicate}
 use Rattle.lr1_base.specs.repr.Meaning.{Item, Table}
 use Rattle.trace.specs.Traced.{Trace, untraced, pairs}

@@ -1,4 +1,4 @@
--- The words of a graph that was built are those of its edges. Assumes nothing.
+-- The words of a graph that was built are those of its edges.
 use Rattle.std.proofs.Common.{◌≡◌, ℕ, zero, suc, ◌+◌, ◌*◌, ◌<◌, ◌≤◌, List, [], ◌∷◌, length, get_or, take, drop, sym, refl, ap, ◌∙◌, append-nil, add-one, arith, drop-cons, take-suc, take-add}
 use Rattle.lr1_base.specs.repr.Sizes.{edge_room, edge_place}
 use Rattle.lr1_base.specs.repr.Lists.{joined}

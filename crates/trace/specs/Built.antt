@@ -1,4 +1,4 @@
--- What the functions that build a graph are asked and give. Assumes nothing: these are definitions.
+-- What the functions that build a graph are asked and give.
 use Rattle.std.specs.Prelude.{◌≡◌, ℕ, ◌<◌, ◌≤◌, true, List, length, take, slice_index_or}
 use Rattle.lr1_base.specs.repr.Sizes.{edge_limit, edge_place}
 use Rattle.lr1_base.specs.repr.Meaning.{Item, Table}

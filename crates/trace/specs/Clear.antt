@@ -1,4 +1,4 @@
--- Items that lead to nothing new (specs/Passed), from the nonterminals that were entered from a state. Assumes nothing: these are definitions.
+-- Items that lead to nothing new (specs/Passed), from the nonterminals that were entered from a state.
 use Rattle.std.specs.Prelude.{ℕ, ◌+◌, ◌*◌, List}
 use Rattle.lr1_base.specs.repr.Sizes.{nonterminal_limit}
 use Rattle.lr1_base.specs.repr.Meaning.{Item, All}

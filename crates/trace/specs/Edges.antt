@@ -1,4 +1,4 @@
--- The edges that tracing adds, by the item that is at hand. Assumes nothing: these are definitions.
+-- The edges that tracing adds, by the item that is at hand.
 use Rattle.std.specs.Prelude.{ℕ, Bool, true, false, List, nat_lt, slice_index_or}
 use Rattle.lr1_base.specs.repr.Meaning.{Item, Production, no_production}
 use Rattle.trace_graph.specs.Graph.{Node, at_nonterminal, at_item, TraceEdge}

@@ -1,5 +1,4 @@
 -- Which items have a suffix that may derive the empty string, as the code keeps them while it traces: a flag for each item, at production * 17 + index, 64 to a word.
--- Assumes nothing: these are definitions.
 use Rattle.std.specs.Prelude.{◌≡◌, ℕ, ◌+◌, ◌*◌, ◌<◌, ◌≤◌, false, List, length}
 use Rattle.lr1_base.specs.repr.Sizes.{index_limit, item_flags}
 use Rattle.lr1_base.specs.repr.Meaning.{Item, Table, ItemFits}

@@ -1,4 +1,4 @@
--- What the words of a trace at work hold when an edge is one word: the trace's edges, and a bit for each pair that is entered. Assumes nothing: these are definitions.
+-- What the words of a trace at work hold when an edge is one word: the trace's edges, and a bit for each pair that is entered.
 use Rattle.std.specs.Prelude.{◌≡◌, ℕ, zero, suc, ◌*◌, ◌<◌, true, false, List, length, slice_index}
 use Rattle.lr1_base.specs.repr.Sizes.{nonterminal_limit, state_limit, production_limit, edge_limit}
 use Rattle.lr1_base.specs.repr.Lists.{mem}

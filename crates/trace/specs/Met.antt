@@ -1,5 +1,4 @@
 -- An item that was traced on from a state: its own edge is there, and the pairs that it leads to are entered. Traced on from there again it changes nothing (`met_still` of proofs/Repeated).
--- Assumes nothing: these are definitions.
 use Rattle.std.specs.Prelude.{◌≡◌, ℕ, true}
 use Rattle.lr1_base.specs.repr.Lists.{mem, some?}
 use Rattle.lr1_base.specs.repr.Meaning.{Item, Table}

@@ -1,4 +1,4 @@
--- What `backtrace_shift` and `backtrace_reduce` answer and leave: answer, graph words, scratch words. Assumes nothing: these are definitions.
+-- What `backtrace_shift` and `backtrace_reduce` answer and leave: answer, graph words, scratch words.
 use Rattle.std.specs.Prelude.{ℕ, true, false, ◌&&◌, List, length, nat_le, nat_lt}
 use Rattle.lr1_base.specs.repr.Reply.{Reply, answered, refused}
 use Rattle.lr1_base.specs.repr.Sizes.{edge_limit, graph_room, scratch_words}

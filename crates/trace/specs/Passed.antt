@@ -1,5 +1,4 @@
 -- A state whose items lead to nothing new: a shift trace has the same edges without it (`left_out` of proofs/Passed). D: nonterminals that were entered from another state.
--- Assumes nothing: these are definitions.
 use Rattle.std.specs.Prelude.{◌≡◌, ℕ, ◌<◌, Bool, true, false, List, length, nat_lt}
 use Rattle.lr1_base.specs.repr.Lists.{some?}
 use Rattle.lr1_base.specs.repr.Meaning.{Item, Table, All}

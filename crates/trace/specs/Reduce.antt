@@ -1,4 +1,4 @@
--- `backtrace_reduce` (lr1/trace/reduce). Assumes nothing: these are definitions.
+-- `backtrace_reduce` (lr1/trace/reduce).
 use Rattle.std.specs.Prelude.{ℕ, zero, suc, true, false, List}
 use Rattle.lr1_base.specs.repr.Lists.{mem}
 use Rattle.lr1_base.specs.repr.Meaning.{Item, Table, state_at}

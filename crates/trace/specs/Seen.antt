@@ -1,4 +1,4 @@
--- How many pairs of a state and a nonterminal are not entered yet: the measure of tracing. Assumes nothing: these are definitions.
+-- How many pairs of a state and a nonterminal are not entered yet: the measure of tracing.
 use Rattle.std.specs.Prelude.{ℕ, zero, suc, true, false, List}
 use Rattle.lr1_base.specs.repr.Lists.{mem}
 

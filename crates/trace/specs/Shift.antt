@@ -1,4 +1,4 @@
--- `backtrace_shift` (lr1/trace/shift). Assumes nothing: these are definitions.
+-- `backtrace_shift` (lr1/trace/shift).
 use Rattle.std.specs.Prelude.{ℕ, zero, suc, true, false, List, nat_lt}
 use Rattle.lr1_base.specs.repr.Lists.{mem}
 use Rattle.lr1_base.specs.repr.Meaning.{Item, Table, state_at}

@@ -1,7 +1,6 @@
 -- The items of a state that can shift a nonterminal, each once, in the order of the chain: tracing over them gives what tracing over the chain gives (`epsilon-shifting` and
--- `reduce_shifting` of proofs/Repeated). Assumes nothing: these are definitions.
+-- `reduce_shifting` of proofs/Repeated).
 use Rattle.std.specs.Prelude.{ℕ, ◌/◌, ◌%◌, true, false, List, [], ◌∷◌}
-use Rattle.lr1_base.specs.repr.Sizes.{index_limit}
 use Rattle.lr1_base.specs.repr.Lists.{some?, keep}
 use Rattle.lr1_base.specs.repr.Meaning.{Item, Table, state_at}
 use Rattle.trace_graph.specs.Graph.{same_item}

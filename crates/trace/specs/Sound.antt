@@ -1,5 +1,5 @@
--- What holds of every accepted trace (acceptance R6; `shift_sound` and `reduce_sound` of proofs/Traced): its numbers are in range and no edge stands twice, so its graph passes the check of
--- a lent graph; the traced item is a node of it; how the ends of an edge go with its label; and how one edge leads to another. Assumes nothing: these are definitions.
+-- What holds of every accepted trace (`shift_sound` and `reduce_sound` of proofs/Traced): its numbers are in range and no edge stands twice, so its graph passes the check of
+-- a lent graph; the traced item is a node of it; how the ends of an edge go with its label; and how one edge leads to another.
 use Rattle.std.specs.Prelude.{◌≡◌, ℕ, ◌≤◌, Bool, true, false, ◌⊎◌, List, [], ◌∷◌, ◌++◌, length}
 use mathlib.Core.List.{Memᴰ}
 use Rattle.lr1_base.specs.repr.Sizes.{edge_limit}
@@ -35,7 +35,7 @@ pub record EdgeSound (T : Table) (e : TraceEdge) : Type 0 where
   pub to_item : (i : Item) → e.target ≡ at_item i → i ≡ e.label
   pub apart : apart_ends e.source e.target ≡ true
 
--- how a nonterminal leads to a nonterminal: in a shift trace by a label at its beginning ("follows index-0 items"), in a reduce trace by one whose suffix is nullable
+-- how a nonterminal leads to a nonterminal: in a shift trace by a label at its beginning, in a reduce trace by one whose suffix is nullable
 pub record ShiftStep (T : Table) (e : TraceEdge) : Type 0 where
   pub beginning : (m n : ℕ) → e.source ≡ at_nonterminal m → e.target ≡ at_nonterminal n → e.label.index ≡ 0
 

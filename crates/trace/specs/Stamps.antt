@@ -1,4 +1,4 @@
--- From which state an item was last traced on: a byte for each item, one more than the state's number or 0, two to a word. Assumes nothing: these are definitions.
+-- From which state an item was last traced on: a byte for each item, one more than the state's number or 0, two to a word.
 use Rattle.std.specs.Prelude.{◌≡◌, ℕ, ◌+◌, ◌*◌, ◌/◌, ◌%◌, ◌<◌, true, false, List, length, ◌==◌, slice_index}
 use Rattle.lr1_base.specs.repr.Sizes.{index_limit, edge_limit}
 use Rattle.lr1_base.specs.repr.Meaning.{Item, Table, ItemFits}

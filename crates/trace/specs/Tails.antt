@@ -1,4 +1,4 @@
--- The tail of a chain of items, listed: those with a nonterminal at the cursor in slots, each once, and the slots of each nonterminal linked. Assumes nothing: these are definitions.
+-- The tail of a chain of items, listed: those with a nonterminal at the cursor in slots, each once, and the slots of each nonterminal linked.
 use Rattle.std.specs.Prelude.{◌≡◌, ℕ, zero, suc, ◌-◌, ◌<◌, ◌≤◌, Bool, true, false, List, [], ◌∷◌, ◌++◌, length, take, ◌≢◌, slice_index, slice_index_or}
 use Rattle.lr1_base.specs.repr.Sizes.{nonterminal_limit}
 use Rattle.lr1_base.specs.repr.Meaning.{Item}

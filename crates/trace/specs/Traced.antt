@@ -1,5 +1,4 @@
--- What tracing carries along, part 5 of document 01 (lr1/trace): the edges in the order added, and the pairs of a state and a nonterminal that are entered.
--- Assumes nothing: these are definitions.
+-- What tracing carries along (docs/RULES.md, "Tracing"; lr1/trace): the edges in the order added, and the pairs of a state and a nonterminal that are entered.
 use Rattle.std.specs.Prelude.{ℕ, ◌+◌, ◌*◌, Bool, List, [], ◌∷◌}
 use Rattle.lr1_base.specs.repr.Meaning.{Symbol, Item, Table, production_at}
 use Rattle.lr1_base.specs.item.Items.{shifts_nonterminal, symbol_sets}

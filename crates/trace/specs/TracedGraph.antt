@@ -1,4 +1,4 @@
--- What holds of the graph that an accepted trace leaves in the lent buffer (parts 4 and 5 of document 01). Assumes nothing: these are definitions.
+-- What holds of the graph that an accepted trace leaves in the lent buffer (docs/RULES.md, "The trace graph", "Tracing").
 use Rattle.std.specs.Prelude.{◌≡◌, ℕ, ◌≤◌, true, List, length}
 use Rattle.lr1_base.specs.repr.Sizes.{graph_room}
 use Rattle.lr1_base.specs.repr.Meaning.{Item, Table, All}

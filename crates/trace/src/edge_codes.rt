@@ -135,7 +135,7 @@ impl<'a> EdgeCodes<'a> {
         ensures none { (T : meaning-of.Table) → Coded T self.new.words.now self.new.flags.now [] }
         ensures same { SameWords self.old self.new }
     {
-        // As document 01 makes an empty graph.
+        // As an empty graph is made.
         let empty = TraceGraph::new();
         self.words[0] = empty.edges as u16;
         self.flags.fill(0);

@@ -1,4 +1,4 @@
-// Which items have a nullable suffix, asked once for all of a trace (lr1/trace/reduce, part 5 of document 01).
+// Which items have a nullable suffix, asked once for all of a trace (lr1/trace/reduce; docs/RULES.md, "Tracing").
 ghost use Rattle.std.specs.Prelude.{◌≡◌, ◌+◌, ◌*◌, ◌<◌, ◌≤◌, length};
 ghost use Rattle.lr1_base.specs.repr.Sizes.{index_limit, item_flags};
 ghost use Rattle.lr1_base.specs.repr.Meaning as meaning-of;

@@ -1,4 +1,4 @@
-// `backtrace_reduce` (lr1/trace/reduce), part 5 of document 01, over edges of one word: the item step and the state step, which call each other. Each pair of a state and a nonterminal is
+// `backtrace_reduce` (lr1/trace/reduce; docs/RULES.md, "Tracing"), over edges of one word: the item step and the state step, which call each other. Each pair of a state and a nonterminal is
 // entered once, so the pairs that are left fall. A frame holds references and numbers alone: the calls may nest as deep as there are pairs.
 ghost use Rattle.std.specs.Prelude.{OnOk, OnErr, ◌≡◌, ℕ, ◌<◌, ◌≤◌, List, length};
 ghost use Rattle.lr1_base.specs.repr.Sizes.{edge_limit};

@@ -1,4 +1,4 @@
-// `backtrace_shift` (lr1/trace/shift), part 5 of document 01, over edges of one word: straight over the chain of a state's items.
+// `backtrace_shift` (lr1/trace/shift; docs/RULES.md, "Tracing"), over edges of one word: straight over the chain of a state's items.
 ghost use Rattle.std.specs.Prelude.{OnOk, OnErr, ◌≡◌, ℕ, ◌+◌, ◌*◌, ◌<◌, ◌≤◌, true, List, [], length, replicate, ◌≢◌};
 ghost use Rattle.lr1_base.specs.repr.Sizes.{state_limit, nonterminal_limit, edge_limit};
 ghost use Rattle.lr1_base.specs.repr.Lists.{mem, some?};

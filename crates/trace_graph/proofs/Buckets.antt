@@ -1,4 +1,4 @@
--- Laws of buckets (specs/Index): equal edges have the same, and the words that it is computed from. Assumes nothing.
+-- Laws of buckets (specs/Index): equal edges have the same, and the words that it is computed from.
 use Rattle.std.proofs.Common.{◌≡◌, ℕ, zero, suc, ◌+◌, ◌*◌, ◌%◌, ◌<◌, true, List, ◌++◌, length, get_or, sym, ap, ◌∙◌, arith}
 use Rattle.lr1_base.specs.repr.Sizes.{nonterminal_limit, terminal_limit}
 use Rattle.lr1_base.specs.repr.Meaning.{Symbol, Production, no_production}

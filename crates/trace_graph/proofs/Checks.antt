@@ -1,4 +1,4 @@
--- The ways through `check_edge` and `check_graph`: a graph's edges are different from each other where each is different from those before it. Assumes nothing.
+-- The ways through `check_edge` and `check_graph`: a graph's edges are different from each other where each is different from those before it.
 use Rattle.std.proofs.Common.{◌≡◌, ℕ, zero, suc, ◌+◌, ◌<◌, ◌≤◌, Bool, true, false, not, ◌&&◌, ◌||◌, leb, List, [], ◌∷◌, ◌++◌, length, get_or, replicate, sym, refl, ap, ◌∙◌, arith, le-leb, leb-true}
 use mathlib.Core.Bool.{or-false}
 use Rattle.lr1_base.specs.repr.Sizes.{edge_limit, graph_room}

@@ -1,4 +1,4 @@
--- The ways through `same_edge` and `find`: an equal edge is looked for among the edges in one bucket. Assumes nothing.
+-- The ways through `same_edge` and `find`: an equal edge is looked for among the edges in one bucket.
 use Rattle.std.proofs.Common.{◌≡◌, ℕ, suc, ◌+◌, ◌-◌, ◌<◌, Bool, true, false, ◌&&◌, List, get_or, sym, ap, ◌∙◌, arith}
 use native.Mathlib.Decide.{ℕ_discrete}
 use borrow.Author.Tests.{eqb-false}

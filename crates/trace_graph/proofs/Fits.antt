@@ -1,11 +1,11 @@
--- Numbers in range (specs/Fits, specs/Values): items, nodes and edges of a table's productions in words. Assumes nothing.
+-- Numbers in range (specs/Fits, specs/Values): items, nodes and edges of a table's productions in words.
 use Rattle.std.proofs.Common.{◌≡◌, ℕ, zero, suc, ◌+◌, ◌*◌, ◌<◌, ◌≤◌, Bool, true, false, ◌&&◌, eqb, ltb, leb, List, length, get_or, sym, refl, ap, ◌∙◌, true≢false, arith, ltb-true, le-ltb, lt-ltb, eq-eqb, ne_eqb, eqb-true, leb-true}
 use Rattle.lr1_base.specs.repr.Sizes.{nonterminal_limit, index_limit}
 use Rattle.lr1_base.specs.words.Same.{same_words}
 use Rattle.lr1_base.specs.repr.Meaning.{Production, no_production}
 use Rattle.lr1_base.specs.repr.Listed.{listed}
 use Rattle.lr1_base.specs.repr.Packed.{symbol_words, production_in, productions_in, Packed}
-use Rattle.lr1_base.proofs.repr.Lists.{length-map-below, get_d_map-below}
+use Rattle.lr1_base.proofs.repr.Lists.{get_d_map-below}
 use Rattle.lr1_base.proofs.repr.Parts.{symbols_long}
 use Rattle.trace_graph.specs.declared.Node.{Node as NodeValue}
 use Rattle.trace_graph.specs.declared.TraceEdge.{TraceEdge as EdgeValue}

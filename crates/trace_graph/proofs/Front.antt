@@ -1,4 +1,4 @@
--- What an added edge does to a graph's words: counts, the words past the edges, and the words in front where they are those of a list of edges. Assumes nothing.
+-- What an added edge does to a graph's words: counts, the words past the edges, and the words in front where they are those of a list of edges.
 use Rattle.std.proofs.Common.{◌≡◌, ℕ, suc, ◌+◌, ◌*◌, ◌≤◌, List, [], ◌∷◌, ◌++◌, length, get_or, take, drop, sym, ap, ◌∙◌, arith, length-append, drop-drop, take_at, drop_at}
 use lib.Seq.{sets, sets-eq}
 use Rattle.lr1_base.specs.repr.Sizes.{edge_room, edge_place}

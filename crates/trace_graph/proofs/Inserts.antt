@@ -1,4 +1,4 @@
--- The ways through `insert`: a graph with its index, and an edge more. Assumes nothing.
+-- The ways through `insert`: a graph with its index, and an edge more.
 use Rattle.std.proofs.Common.{◌≡◌, ℕ, ◌+◌, ◌<◌, ◌≤◌, Bool, true, false, List, [], ◌∷◌, ◌++◌, length, get_or, set, sym, refl, ap, ◌∙◌, add-one, arith}
 use native.Mathlib.Decide.{ℕ_discrete}
 use Rattle.lr1_base.specs.repr.Sizes.{edge_limit, edge_place}

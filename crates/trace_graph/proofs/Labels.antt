@@ -1,5 +1,4 @@
 -- The tests of specs/Graph decide equality: symbols, symbol sets, nodes, edges; and an item's label is its index with its production's symbols.
--- Assumes nothing.
 use Rattle.std.proofs.Common.{◌≡◌, ℕ, suc, ◌≤◌, true, ◌&&◌, eqb, List, [], ◌∷◌, length, take, drop, sym, refl, ap, ◌∙◌, true≢false, add-one, arith, take-append-drop, length-take-le, drop-drop, eq-eqb, eqb-true}
 use mathlib.Core.Option.{Option, none, some}
 use Rattle.lr1_base.specs.repr.Meaning.{Symbol, is_same_symbol, Item, Production}

@@ -1,4 +1,4 @@
--- Nodes by value (specs/Nodes) and words: the words of a node that words make are those words. Assumes nothing.
+-- Nodes by value (specs/Nodes) and words: the words of a node that words make are those words.
 use Rattle.std.proofs.Common.{◌≡◌, ℕ, zero, suc, refl}
 use Rattle.lr1_base.specs.declared.repr.NonterminalString.{NonterminalString}
 use Rattle.lr1_base.specs.declared.repr.ProductionIndex.{ProductionIndex}

@@ -1,5 +1,5 @@
 -- A trace graph written in words (specs/Words) is read back, whatever stands behind it, and passes the check of a lent graph (specs/Fits) where its edges are in range, at most 1,024 and
--- no edge stands twice. Assumes nothing.
+-- no edge stands twice.
 use Rattle.std.proofs.Common.{◌≡◌, ℕ, zero, suc, ◌+◌, ◌*◌, ◌<◌, ◌≤◌, Bool, true, ◌&&◌, List, [], ◌∷◌, ◌++◌, map, length, get_or, sym, refl, ap, ◌∙◌, append_assoc, append-nil, arith, get_or-append-add, ext_get_or, lt-ltb, le-leb}
 use lib.ListN.{get_or-append}
 use Rattle.lr1_base.specs.repr.Sizes.{edge_limit, edge_room, edge_place}

@@ -1,6 +1,5 @@
--- `same_words` of specs/Same, and the symbols that words say. Assumes nothing.
-use Rattle.std.proofs.Common.{◌≡◌, ℕ, Bool, zero, suc, ◌<◌, true, ◌&&◌, eqb, List, [], ◌∷◌, sym, refl, ap, true≢false, arith}
-use Rattle.std.specs.Cmp.Lexicographic.{pointwise}
+-- `same_words` of specs/Same, and the symbols that words say.
+use Rattle.std.proofs.Common.{◌≡◌, ℕ, zero, suc, ◌<◌, true, ◌&&◌, List, [], ◌∷◌, sym, refl, true≢false, arith}
 use Rattle.lr1_base.specs.repr.Sizes.{nonterminal_limit, terminal_limit}
 use Rattle.lr1_base.proofs.words.Same.{same_words_eq, same_words_refl}
 use Rattle.lr1_base.specs.words.Same.{same_words}

@@ -1,4 +1,4 @@
--- A run of stores, read back word by word. Assumes nothing.
+-- A run of stores, read back word by word.
 use Rattle.std.proofs.Common.{◌≡◌, ℕ, zero, suc, ◌+◌, ◌<◌, ◌≤◌, List, [], ◌∷◌, length, get_or, set, refl, ◌∙◌, arith, length-set, get_or-set_other, get_or-set_same}
 use lib.Seq.{sets}
 

@@ -1,4 +1,4 @@
--- Edges in words (specs/Words, specs/Values): an edge read from its words, written to them, and the first edges. Assumes nothing.
+-- Edges in words (specs/Words, specs/Values): an edge read from its words, written to them, and the first edges.
 use Rattle.std.proofs.Common.{◌≡◌, ℕ, zero, suc, ◌+◌, ◌<◌, ◌≤◌, true, ltb, List, [], ◌∷◌, ◌++◌, map, length, get_or, set, sym, refl, ap, ◌∙◌, true≢false, add-one, arith, length-set, get_or-set_other, get_or-set_same, eqb-true}
 use mathlib.Core.List.{map-append}
 use native.Mathlib.Numerals.{add-two, add-three, add-four, add_five, add_six, add_seven}

@@ -1,5 +1,4 @@
 -- What is asked of a graph that a caller lends (refusal 9): a count of at most 1,024, every number in range, no edge twice. Words past the edges are not looked at.
--- Assumes nothing: these are definitions.
 use Rattle.std.specs.Prelude.{ℕ, zero, suc, ◌+◌, Bool, true, false, not, ◌&&◌, List, [], ◌∷◌, length, ◌==◌, nat_le, nat_lt, slice_index, slice_index_or}
 use Rattle.lr1_base.specs.repr.Sizes.{edge_limit, edge_place}
 use Rattle.lr1_base.specs.repr.Lists.{below, some?, every?}

@@ -1,5 +1,4 @@
--- The trace graph, part 4 of document 01 (lr1/trace/trace_graph): its edges in the order added; the nodes are the ends of edges.
--- Assumes nothing: these are definitions.
+-- The trace graph (docs/RULES.md, "The trace graph"; lr1/trace/trace_graph): its edges in the order added; the nodes are the ends of edges.
 use Rattle.std.specs.Prelude.{ℕ, Bool, true, false, ◌&&◌, List, [], ◌∷◌, ◌++◌, ◌==◌, slice_index_or}
 use Rattle.std.proofs.Math.Option.{Option, none, some}
 use Rattle.lr1_base.specs.repr.Lists.{some?}

@@ -1,6 +1,6 @@
 -- The edges in chains, newest first, as the code keeps them beside a graph, to look for an equal edge. A word for each bucket, which holds 0 or one more than the number of the latest
--- edge in the bucket; then a word for each edge, which holds the next older edge in the same bucket in the same way. Assumes nothing: these are definitions.
-use Rattle.std.specs.Prelude.{◌≡◌, ℕ, zero, suc, ◌+◌, ◌*◌, ◌%◌, ◌<◌, Bool, true, false, List, [], ◌∷◌, length, ◌==◌, slice_index, slice_index_or}
+-- edge in the bucket; then a word for each edge, which holds the next older edge in the same bucket in the same way.
+use Rattle.std.specs.Prelude.{◌≡◌, ℕ, ◌+◌, ◌*◌, ◌%◌, ◌<◌, Bool, true, List, [], ◌∷◌, length, ◌==◌, slice_index, slice_index_or}
 use Rattle.lr1_base.specs.repr.Sizes.{nonterminal_limit, index_limit, item_limit, edge_limit}
 use Rattle.lr1_base.specs.repr.Meaning.{Symbol, nonterminal, terminal, Production, no_production}
 use Rattle.trace_graph.specs.Graph.{Node, at_nonterminal, at_item, TraceEdge}

@@ -1,5 +1,4 @@
 -- `add_edge` in words: a graph with its index, and what an edge that is added changes.
--- Assumes nothing: these are definitions.
 use Rattle.std.specs.Prelude.{◌≡◌, ℕ, ◌+◌, ◌<◌, ◌≤◌, Bool, true, false, not, List, length, slice_index, slice_index_or, slice_set}
 use Rattle.lr1_base.specs.repr.Sizes.{edge_limit, graph_room}
 use Rattle.lr1_base.specs.repr.Lists.{some?}

@@ -1,4 +1,4 @@
--- The code's `TraceGraphNode`: the node that three words make, and its three words. Assumes nothing: these are definitions.
+-- The code's `TraceGraphNode`: the node that three words make, and its three words.
 use Rattle.std.specs.Prelude.{ℕ, zero, suc}
 use Rattle.trace_graph.specs.declared.Node.{Node as NodeValue}
 use Rattle.trace_graph.specs.declared.TraceGraphNode.{TraceGraphNode}

@@ -1,5 +1,4 @@
 -- What the values of the code's structs `Node` and `TraceEdge` are, when they are in range, and the words that an edge is read from and written to. The one accessor for an edge's words.
--- Assumes nothing: these are definitions.
 use Rattle.std.specs.Prelude.{ℕ, ◌+◌, ◌<◌, ◌≤◌, Bool, ◌&&◌, List, [], ◌∷◌, map, ◌==◌, slice_index}
 use Rattle.std.proofs.lemmas.List.Edits.{sets}
 use Rattle.lr1_base.specs.repr.Sizes.{edge_place}

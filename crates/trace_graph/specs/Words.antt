@@ -1,5 +1,4 @@
 -- A trace graph in words: a count, then eight an edge as added (source, target: 0, nonterminal, 0 or 1, production, index; label: an item's production, index).
--- Assumes nothing: these are definitions.
 use Rattle.std.specs.Prelude.{ℕ, zero, suc, ◌+◌, List, [], ◌∷◌, ◌++◌, map, length, slice_index}
 use Rattle.lr1_base.specs.repr.Sizes.{edge_place}
 use Rattle.lr1_base.specs.repr.Lists.{below, joined}

@@ -1,4 +1,4 @@
-// The trace graph (lr1/trace/trace_graph/mod.rs) in words: part 4 of document 01.
+// The trace graph (lr1/trace/trace_graph/mod.rs) in words (docs/RULES.md, "The trace graph").
 // An index (specs/Index) of the edges in each bucket is kept beside it, so that an equal edge is looked for in one bucket alone.
 
 #![tactic(auto)]

@@ -1,4 +1,4 @@
--- What is written stands in the bytes that were lent. Assumes nothing.
+-- What is written stands in the bytes that were lent.
 use mathlib.Core.Path.{◌≡◌, refl, sym, ap, ◌∙◌, subst}
 use mathlib.Core.List.{List}
 use Prim.Native.Nat.{ℕ, ◌≤◌}

@@ -1,4 +1,4 @@
-// Writes the grammar of a stream's table as a yacc text (Req 09): record count and table words in, the text out; what follows the table is not read.
+// Writes the grammar of a stream's table as a yacc text (docs/YACC.md): record count and table words in, the text out; what follows the table is not read.
 // A refusal is said in one line on standard error, and nothing is written. A read or a write that fails is said there too and ends the run.
 #![tactic(auto)]
 

@@ -1,4 +1,4 @@
--- What is read and what is written of it stands in the words that were lent; what is read can be given a start production. Assumes nothing.
+-- What is read and what is written of it stands in the words that were lent; what is read can be given a start production.
 use mathlib.Core.Path.{◌≡◌, sym, ap, ◌∙◌, subst}
 use mathlib.Core.List.{List}
 use Prim.Native.Nat.{ℕ, ◌*◌, ◌/◌, ◌≤◌}

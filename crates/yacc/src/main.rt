@@ -1,4 +1,4 @@
-// Reads a yacc text (Req 09, docs/YACC.md) and writes its grammar as `states` reads it: record count, table words, the start production as one word more. Where the start nonterminal has more than one
+// Reads a yacc text (docs/YACC.md) and writes its grammar as `states` reads it: record count, table words, the start production as one word more. Where the start nonterminal has more than one
 // production or stands in a right side, a nonterminal and a production that leads to it are added behind all others (module start_production of table_rewrite).
 // A refusal is said in one line on standard error, and nothing is written; of 20 and 21 a second line says where. A read or a write that fails is said there too and ends the run.
 #![tactic(auto)]

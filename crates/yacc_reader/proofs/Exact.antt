@@ -1,4 +1,4 @@
--- A text is read exactly if it is of the grammar and no refusal applies; what is left of it; a refusal changes nothing (specs/Reading). Assumes nothing.
+-- A text is read exactly if it is of the grammar and no refusal applies; what is left of it; a refusal changes nothing (specs/Reading).
 use Prim.Native.Nat.{ℕ, ◌+◌}
 use mathlib.Core.Bool.{true, false}
 use mathlib.Core.Path.{◌≡◌, refl, ap, ◌∙◌}

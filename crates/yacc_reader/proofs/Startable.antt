@@ -1,4 +1,4 @@
--- What is read stands in the words that were lent, has one empty state, and its start is one of its nonterminals: a start production can be added (module start_production of table_rewrite). Assumes nothing.
+-- What is read stands in the words that were lent, has one empty state, and its start is one of its nonterminals: a start production can be added (module start_production of table_rewrite).
 use Prim.Native.Nat.{ℕ, ◌*◌, ◌/◌, ◌≤◌, ◌<◌}
 use native.Mathlib.Omega.{arith}
 use mathlib.Core.Bool.{Bool, true, false, ◌||◌, not}

@@ -1,4 +1,4 @@
--- What the contracts cite. Assumes nothing.
+-- What the contracts cite.
 pub mod counts
 pub mod events
 pub mod limits

@@ -1,4 +1,4 @@
--- A text that nothing refuses. Assumes nothing: these are definitions.
+-- A text that nothing refuses.
 use Rattle.std.specs.Prelude.{ℕ, true, false, ◌≡◌, List}
 use Rattle.std.proofs.Math.Option.{none}
 use Rattle.yacc_reader.specs.parsed_file.Source.{Source}

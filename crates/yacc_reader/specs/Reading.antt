@@ -1,4 +1,4 @@
--- Which texts are read, and what is left of them, at the call (Req 09). Assumes nothing: these are definitions.
+-- Which texts are read, and what is left of them, at the call (docs/YACC.md).
 use Rattle.std.specs.Prelude.{ℕ, ◌<◌, Bool, true, false, ◌≡◌, List, map, length, get_or}
 use Rattle.lr1_base.specs.words.Lent.{in_front}
 use Rattle.lr1_base.specs.repr.Reply.{Reply, answered, refused}

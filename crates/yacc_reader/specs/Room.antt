@@ -1,4 +1,4 @@
--- Words in which no ids are entered yet. Assumes nothing: these are definitions.
+-- Words in which no ids are entered yet.
 use Rattle.std.specs.Prelude.{ℕ, ◌≤◌, List, length}
 use Rattle.yacc_syntax.specs.text.Grammar.{text_limit}
 use Rattle.yacc_reader.specs.symbol_table.Ids.{Fresh}

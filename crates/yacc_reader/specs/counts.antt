@@ -1,2 +1,2 @@
--- What the contracts cite. Assumes nothing.
+-- What the contracts cite.
 pub mod Counted

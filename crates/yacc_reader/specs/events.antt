@@ -1,3 +1,3 @@
--- What the contracts cite. Assumes nothing.
+-- What the contracts cite.
 pub mod Said
 pub mod Tokens

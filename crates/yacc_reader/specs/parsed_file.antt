@@ -1,4 +1,4 @@
--- What the contracts cite. Assumes nothing.
+-- What the contracts cite.
 pub mod Events
 pub mod Source
 pub mod Files

@@ -1,4 +1,4 @@
-// Reading a yacc text into a table with one empty state, whole (request 09): what is answered and left in the lent words is `read_of` (module parsed_file, specs/Outcome).
+// Reading a yacc text into a table with one empty state, whole (docs/YACC.md): what is answered and left in the lent words is `read_of` (module parsed_file, specs/Outcome).
 
 #![tactic(auto)]
 

@@ -1,4 +1,4 @@
-// Reading a yacc text into a table (request 09): what is answered and left in the lent words (specs/parsed_file/Outcome).
+// Reading a yacc text into a table (docs/YACC.md): what is answered and left in the lent words (specs/parsed_file/Outcome).
 
 use lr1_base::repr::NonterminalString;
 

@@ -1,4 +1,4 @@
--- The laws. Assumes nothing.
+-- The laws.
 pub mod Lexing
 pub mod Tokens
 pub mod Exact

@@ -1,4 +1,4 @@
--- Laws of bytes written one behind the other (specs/Wrote), and numerals of one and two digits. Assumes nothing.
+-- Laws of bytes written one behind the other (specs/Wrote), and numerals of one and two digits.
 use Prim.Native.Nat.{ℕ, zero, suc, ◌+◌, ◌*◌, ◌/◌, ◌%◌, ◌≤◌, ◌<◌}
 use native.Mathlib.Nat.{add-zero, add-suc, suc-add}
 use native.Mathlib.Omega.{arith}

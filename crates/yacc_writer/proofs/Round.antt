@@ -1,4 +1,4 @@
--- What `write_yacc` writes, read back with room, is the grammar of the table again (specs/Round). Assumes nothing.
+-- What `write_yacc` writes, read back with room, is the grammar of the table again (specs/Round).
 use Prim.Native.Nat.{ℕ, suc, ◌+◌, ◌*◌, ◌/◌, ◌≤◌}
 use native.Mathlib.Omega.{arith}
 use mathlib.Core.Bool.{true, false}

@@ -1,4 +1,4 @@
--- The bytes of a written text line by line (specs/Wrote) are those that yacc_write spells token by token. Assumes nothing.
+-- The bytes of a written text line by line (specs/Wrote) are those that yacc_write spells token by token.
 use Prim.Native.Nat.{ℕ, zero, suc}
 use mathlib.Core.Path.{◌≡◌, refl, sym, ap, ◌∙◌}
 use mathlib.Core.List.{List, [], ◌∷◌, ◌++◌, map, append_assoc, append-nil}

@@ -1,4 +1,4 @@
--- What the loops of the writer hold, their turns, and the ways out of `write_in`. Assumes nothing.
+-- What the loops of the writer hold, their turns, and the ways out of `write_in`.
 use Prim.Native.Nat.{ℕ, suc, ◌+◌, ◌-◌, ◌*◌, ◌≤◌, ◌<◌}
 use native.Mathlib.Nat.{le-add_right, mul-suc}
 use native.Mathlib.Numerals.{add-one}

@@ -1,4 +1,4 @@
--- A written text read back, at the calls (Req 09, W4). Assumes nothing: these are definitions.
+-- A written text read back, at the calls (docs/YACC.md, "What is written").
 use Rattle.std.specs.Prelude.{ℕ, ◌+◌, ◌*◌, ◌≡◌, List, map, length}
 use Rattle.lr1_base.specs.words.Lent.{in_front}
 use Rattle.lr1_base.specs.repr.Meaning.{Table}

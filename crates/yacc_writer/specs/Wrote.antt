@@ -1,4 +1,4 @@
--- Bytes written from a place on as far as there is room, and the bytes of a written text line by line (`text_bytes` of proofs/Texts: they are those of yacc_write). Assumes nothing: these are definitions.
+-- Bytes written from a place on as far as there is room, and the bytes of a written text line by line (`text_bytes` of proofs/Texts: they are those of yacc_write).
 use Rattle.std.specs.Prelude.{ℕ, zero, suc, ◌+◌, ◌≡◌, List, [], ◌∷◌, ◌++◌, length}
 use Rattle.std.proofs.lemmas.List.Edits.{sets}
 use Rattle.lr1_base.specs.numerals.Numeral.{numeral}

@@ -1,4 +1,4 @@
--- What the contracts cite. Assumes nothing.
+-- What the contracts cite.
 pub mod Text
 pub mod Files
 pub mod Outcome

@@ -1,4 +1,4 @@
-// Writing a table's grammar as a yacc text (request 09), in code. Bytes are put as far as there is room (specs/Wrote), so that the functions that write also count. Each takes the text and a place and answers the place behind (module conflict_words of lr1_tables says why there is no writer).
+// Writing a table's grammar as a yacc text (docs/YACC.md), in code. Bytes are put as far as there is room (specs/Wrote), so that the functions that write also count. Each takes the text and a place and answers the place behind (module conflict_words of lr1_tables says why there is no writer).
 
 #![tactic(auto)]
 

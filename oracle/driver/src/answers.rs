@@ -1,5 +1,5 @@
 //! The requests of the stored sample answered, as tests/c/replay.c must
-//! print them: a side's answers, and document 01's rules of lent words, count
+//! print them: a side's answers, and the rules of lent words, count
 //! and openness, which are read here. tests/c/replay.c says what a
 //! request and an answer hold, op by op.
 
@@ -27,10 +27,10 @@ pub const YACC_WRITTEN: usize = 9_480;
 /// And bytes of a text that is read: more than are read.
 pub const YACC_TEXT: usize = 65_544;
 
-/// The words that a call asks for: 11, and document 01's rules of scratch.
+/// The words that a call asks for: 11, and the rules of scratch.
 pub const GRAPH_ASKED: usize = 8_193;
 pub const SCRATCH_ASKED: usize = 32_000;
-/// Classifying and choosing ask for fewer (request 06 of document 02).
+/// Classifying and choosing ask for fewer.
 pub const CLASSIFY_ASKED: usize = 8_000;
 pub const EXAMPLE_ASKED: usize = 1_158;
 /// The header's: six words a token, 64 tokens.
@@ -185,7 +185,7 @@ fn packed(own: &[u32]) -> [u32; 2] {
     halves(word)
 }
 
-/// Part 10: whether a buffer holds what its counts say, with the cursor within
+/// Observed symbols: whether a buffer holds what its counts say, with the cursor within
 /// the symbols.
 fn is_whole(buffer: &[u16]) -> bool {
     let [symbols, cursor, reductions, rest @ ..] = buffer else {
@@ -257,7 +257,7 @@ fn is_node(of: &Of, edges: &[[u16; 8]]) -> bool {
     edges.iter().any(|e| e[..3] == node || e[3..6] == node)
 }
 
-/// Op 18, by document 02 and not by a side: the Rust has no such call.
+/// Op 18, by docs/RULES.md, "One spelling", and not by a side: the Rust has no such call.
 fn respell(table: &[u16], more: &[u16]) -> Answer {
     let lent = number(more, 0).min(REWRITTEN);
     let (head, words) = match rewrites::respell(table, lent) {

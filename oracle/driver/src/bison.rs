@@ -1,4 +1,4 @@
-//! Request 01 against bison's canonical LR(1) automata, outside the tests. Of
+//! The states built against bison's canonical LR(1) automata, outside the tests. Of
 //! grammars whose symbols are all of use, since bison leaves the others out.
 //! Its own start rule (rule 0, the start and then the end) makes two states,
 //! two transitions and three items more.

@@ -1,5 +1,4 @@
-//! Request 01: grammars to build the states of, and what tells one reading of
-//! the request from another.
+//! Grammars to build the states of, and what tells one reading of the rule from another.
 
 use crate::answers::{BUILDING, CONFLICTS, REWRITTEN};
 use crate::generate::*;

@@ -24,7 +24,7 @@ use std::hint::black_box;
 use std::rc::Rc;
 use std::time::{Duration, Instant};
 
-/// The parts of docs/COSTS.md in its order, and one that takes too long to be
+/// The parts in the order in which they are printed, and one that takes too long to be
 /// asked with the others.
 pub const PARTS: [&str; 5] = ["traces", "listings", "conflicts", "building", "longest"];
 

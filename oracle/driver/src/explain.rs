@@ -1,4 +1,4 @@
-//! Document 01's explaining program, over any side: bytes in, lines out.
+//! The explaining program (docs/RULES.md), over any side: bytes in, lines out.
 
 use crate::question::text;
 use crate::side::Side;
@@ -58,7 +58,7 @@ fn lines(number: u32, a: &[u32]) -> String {
             continue;
         };
         let (pairs, reductions) = words.split_at(2 * symbols as usize);
-        // The printed length leaves the empty mark out (request 05).
+        // The printed length leaves the empty mark out.
         let length = pairs.chunks(2).filter(|p| p[0] != 2).count();
         write!(out, "{letter} {length} {cursor}").unwrap();
         for p in pairs.chunks(2) {

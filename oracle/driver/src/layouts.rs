@@ -1,5 +1,4 @@
-//! Requests 02 and 08: meanings laid out in any order, and what tells one
-//! reading of the requests from another.
+//! Meanings laid out in any order, and what tells one reading of one spelling and of unused records from another.
 
 use crate::generate::{Rng, arbitrary_table};
 use crate::question::{Case, Question};

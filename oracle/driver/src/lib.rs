@@ -1,4 +1,4 @@
-//! Runs of lalrpop's published modules on document 01's words.
+//! Runs of lalrpop's published modules on the words of docs/RULES.md.
 
 pub mod answers;
 pub mod bison;

@@ -12,16 +12,16 @@ use std::time::{Duration, Instant};
 
 const USAGE: &str =
     "oracle [SIDE]                           questions, a line each, on standard input
-oracle explain [SIDE]                   document 01's program over standard input
-oracle marked [SIDE]                    document 01's marked examples on table B
+oracle explain [SIDE]                   the explaining program over standard input
+oracle marked [SIDE]                    the marked examples on table B (docs/RULES.md)
 oracle generate KIND SEED COUNT [SIDE]  cases as lines, with the side's answers
 oracle compare KIND SEED COUNT [SIDE ..] [only=VERB,..]
                                         asks all sides, or those named, the same (KIND may be all)
 oracle sample REQUESTS ANSWERS [KIND SEED COUNT]
                                         writes the stored sample, or one of some seeds
-oracle bison SEED COUNT [SIDE ..]       request 01 against bison's canonical LR(1) automata, so many grammars
-oracle yacc SEED COUNT                  request 09 against byacc and bison, so many files
-oracle costs [PART ..]                  times of the Rust and the port, if linked, in markdown: the tables of docs/COSTS.md
+oracle bison SEED COUNT [SIDE ..]       the states built against bison's canonical LR(1) automata, so many grammars
+oracle yacc SEED COUNT                  yacc texts against byacc and bison, so many files
+oracle costs [PART ..]                  times of the Rust and the port, if linked, in markdown (docs/COSTS.md has rows of them)
                                         (PART: traces, listings, conflicts, building; or longest, which takes long)
 sides: rust, plain, and port if linked";
 
@@ -117,7 +117,7 @@ fn explain(side: &str) -> bool {
     false
 }
 
-/// Document 01's marked examples, and the inputs of its table of refusals.
+/// The marked examples and the inputs of refusals (docs/RULES.md, "Table B").
 fn marked(side: &str) -> bool {
     let mut side = oracle::side(side);
     let b = table_b();
@@ -258,7 +258,7 @@ fn list(kind: &str, seed: u64, count: u64, side: &str) -> bool {
     false
 }
 
-/// The plain reader of request 01 and bison, and the sides named held to the
+/// The plain reader of the states and bison, and the sides named held to the
 /// reader.
 fn bison(seed: u64, count: u64, sides: &[&str]) -> bool {
     let mut asked: Vec<Box<dyn Side>> = sides.iter().map(|name| oracle::side(name)).collect();
@@ -285,7 +285,7 @@ fn bison(seed: u64, count: u64, sides: &[&str]) -> bool {
     score.end()
 }
 
-/// The plain reader of request 09, byacc and bison.
+/// The plain reader of yacc texts, byacc and bison.
 fn yacc(seed: u64, count: u64) -> bool {
     let (told, found) = oracle::tools::compare(seed, count as usize);
     println!(

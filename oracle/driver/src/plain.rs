@@ -1,10 +1,9 @@
-//! Document 01 read plainly, without the Rust: a second side, so that the
-//! paper's reading is itself compared, and limits have answers.
+//! docs/RULES.md read plainly, without the Rust: a second side, so that the reading is itself compared, and limits have answers.
 
 use crate::side::*;
 use crate::table::*;
 
-/// FIRST (request 04): bit i is terminal i; and whether the empty list is derived.
+/// FIRST: bit i is terminal i; and whether the empty list is derived.
 #[derive(Clone, Copy, Default, PartialEq)]
 pub struct First {
     pub terminals: u64,

@@ -1,5 +1,4 @@
-//! Tables rewritten, read plainly from document 02 over document 01's table:
-//! request 02, a table written afresh, and request 08, its unused records taken
+//! Tables rewritten, read plainly from docs/RULES.md: a table written afresh, and its unused records taken
 //! back. Nothing of it is the port's.
 
 use crate::table::*;
@@ -25,7 +24,7 @@ impl Writer {
     }
 }
 
-/// The records of a table written afresh: the areas as document 01 has them,
+/// The records of a table written afresh: the areas as docs/RULES.md has them,
 /// then symbols by production, items by state, edges by state; nothing shared,
 /// nothing unreached.
 pub fn spelled(table: &Table) -> Vec<[u16; 4]> {

@@ -448,7 +448,7 @@ fn sets(m: &mut Maker) {
     }
 }
 
-/// Request 14 of document 02: lists in two parts at every word, of an odd
+/// Joined lists: lists in two parts at every word, of an odd
 /// number of words too, over tables that are refused too.
 fn in_two(m: &mut Maker) {
     let productions: &[(u16, &[Sym])] = &[

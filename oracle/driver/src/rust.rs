@@ -696,8 +696,7 @@ pub fn names_in_order() -> bool {
         && back.eq((0..32).map(|n| (0, n)).chain((0..63).map(|t| (1, t))))
 }
 
-/// Whether the Rust panics on an accepted table: with a conflict (of which
-/// document 01 says 10), and with a listing over no edges (of which it says 15).
+/// Whether the Rust panics on an accepted table: with a conflict (which is refused by 10), and with a listing over no edges (which is refused by 15).
 pub fn panics(words: &[u16], conflict: [u16; 5], start: (u16, u16)) -> (bool, bool) {
     use std::panic::{AssertUnwindSafe, catch_unwind, set_hook, take_hook};
     let held = Held::new(Rc::new(decode(words).unwrap())).unwrap();
@@ -790,7 +789,7 @@ impl Side for RustSide {
 
     fn first0(&mut self, table: &[u16], symbols: &[Sym]) -> Option<Answer> {
         let good = |t: &Table| symbols.iter().all(|&s| t.symbol_in_range(s));
-        // The Rust marks a nullable list by the end in its set (request 04).
+        // The Rust marks a nullable list by the end in its set.
         self.ask(table, good, |r| {
             let mut tokens = r.first0(symbols);
             let nullable = tokens.pop_if(|t| *t == r.table.terminals).is_some();

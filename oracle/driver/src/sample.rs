@@ -133,7 +133,7 @@ impl Maker<'_> {
     }
 }
 
-/// Document 01's marked questions of parts 2 and 3, and lists, states and sets
+/// The marked questions of FIRST and walking back, and lists, states and sets
 /// out of range.
 fn on_b(m: &mut Maker) {
     let b = table_b();
@@ -228,7 +228,7 @@ fn lengths(m: &mut Maker) {
     }
 }
 
-/// Refusals 3 to 8: document 01's inputs, then every word of every record of
+/// Refusals 3 to 8: the inputs of docs/RULES.md, then every word of every record of
 /// table B with several values, then two of them at once.
 fn damage(m: &mut Maker) {
     let b = table_b();

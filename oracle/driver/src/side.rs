@@ -53,7 +53,7 @@ pub trait Side {
     fn trace_back(&mut self, _table: &[u16], _state: u16, _symbols: &[Sym]) -> Option<Answer> {
         None
     }
-    /// Two lists of words (request 14 of document 02): answered as on the
+    /// Two lists of words (docs/RULES.md, "Joined lists"): answered as on the
     /// joined one, so a symbol may begin in the one and end in the other.
     fn first0_joined(&mut self, table: &[u16], xs: &[u16], ys: &[u16]) -> Option<Answer> {
         let asked = [xs, ys].concat();
@@ -79,7 +79,7 @@ pub trait Side {
     fn backtrace(&mut self, _reduce: bool, _table: &[u16], _from: Traced) -> Option<Answer> {
         None
     }
-    /// `graph` as document 01's words: a count, then eight an edge.
+    /// `graph` in words (docs/RULES.md, "The trace graph"): a count, then eight an edge.
     fn add_edge(&mut self, _table: &[u16], _graph: &[u16], _edge: [u16; 8]) -> Option<Answer> {
         None
     }

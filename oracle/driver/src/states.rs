@@ -1,4 +1,4 @@
-//! Request 01 of document 02 read plainly: the states of a grammar as the book
+//! Building states read plainly: the states of a grammar as the book
 //! has them (Aho, Sethi, Ullman), each item with one lookahead. Nothing of it
 //! is the port's.
 

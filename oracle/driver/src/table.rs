@@ -1,4 +1,4 @@
-//! Document 01's table: an independent reader of its words, refusals 1 to 8
+//! A table: an independent reader of its words, refusals 1 to 8
 //! with number and place, and the writing of words for generated tables.
 
 /// Kind (0 nonterminal, 1 terminal; 2 the empty mark of an example), number.
@@ -371,7 +371,7 @@ impl Table {
     }
 }
 
-/// Table B of document 01.
+/// Table B of docs/RULES.md.
 pub fn table_b() -> Vec<u16> {
     let records: [[u16; 4]; 24] = [
         [1, 2, 4, 2],

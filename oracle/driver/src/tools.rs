@@ -1,4 +1,4 @@
-//! Request 09 against byacc and bison, outside the tests: files that all should
+//! Yacc texts against byacc and bison, outside the tests: files that all should
 //! read, with numbers by the tools' own output; then the classes of texts that
 //! docs/YACC.md has in its last table; then files with one byte changed.
 

@@ -1,4 +1,4 @@
-//! Request 09 of document 02 read plainly from docs/YACC.md: the classes of
+//! Yacc texts read plainly from docs/YACC.md: the classes of
 //! tokens as a table, and rows of what may follow. Nothing of it is the port's.
 
 use crate::rewrites::spelled;

@@ -1,5 +1,4 @@
-//! Request 09: yacc texts to read, tables to write as such, and what tells one
-//! reading of the request from another.
+//! Yacc texts to read, tables to write as such, and what tells one reading of docs/YACC.md from another.
 
 use crate::answers::{YACC_PLACES, YACC_TABLE, YACC_WRITTEN};
 use crate::generate::*;

@@ -1,4 +1,4 @@
-// Shim: an example as document 01's parts 7 and 10 describe it. The published
+// Shim: an example (docs/RULES.md, "An example in words", "Observed symbols"). The published
 // `PathEnumerator::example` fills it; here are only its fields. The two
 // functions that draw it hold the example itself in place of a picture.
 use crate::grammar::repr::{NonterminalString, Symbol};

@@ -1,5 +1,4 @@
--- `fewer_words`: with room for W words and for W' words classifying and choosing answer alike, leave the same buffers, and of the scratch what the answer says. At 8,000 and
--- 32,000 it is Req 06's. Assumes nothing.
+-- `fewer_words`: with room for W words and for W' words classifying and choosing answer alike, leave the same buffers, and of the scratch what the answer says. So more scratch than is asked changes no answer (docs/RULES.md, "Lent words").
 use Rattle.std.proofs.Common.{◌≡◌, ℕ, ◌≤◌, ◌&&◌, leb, List, length, refl, arith, le-leb}
 use borrow.Author.Tests.{lt-leb}
 use Rattle.lr1_base.specs.repr.Sizes.{example_room}
@@ -82,7 +81,7 @@ pub fewer_words : (t : List ℕ) (c : Conflict) (W W' : ℕ) (s s' : List ℕ) �
 unfolding classify_with choose_with
 fewer_words t c W W' s s' l l' = record { classes = λ action reduce. class_by l l' t c action reduce (check_of t) refl; choices = λ set. choice_by_lem l l' t c set (check_of t) refl }
 
--- request 06: what `classify_of` and `choose_of` answer with 8,000 words is what document 01's definitions answer with 32,000
+-- docs/RULES.md, "Lent words": what `classify_of` and `choose_of` answer with 8,000 words is what the definitions over 32,000 answer
 pub eight_thousand : (t : List ℕ) (c : Conflict) (s s' : List ℕ) → 8000 ≤ length s → 32000 ≤ length s' → EightThousand t c s s'
 eight_thousand t c s s' l l' =
     let same = fewer_words t c 8000 32000 s s' l l' in

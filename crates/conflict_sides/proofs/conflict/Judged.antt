@@ -1,10 +1,10 @@
--- Laws of judging (specs/conflict/Judge), one for each condition that part 8 of document 01 leaves to the Rust: precedence, ambiguous reduction, and the inline test's zip. Assumes nothing.
-use Rattle.std.proofs.Common.{◌≡◌, ℕ, suc, true, false, eqb, List, [], ◌∷◌, ◌++◌, refl, ap, ◌∙◌, eq-eqb, ne_eqb}
+-- Laws of judging (specs/conflict/Judge), one for each condition that is the Rust's (docs/RULES.md, "Classes"): precedence, ambiguous reduction, and the inline test's zip.
+use Rattle.std.proofs.Common.{◌≡◌, ℕ, suc, true, false, eqb, List, [], ◌∷◌, ◌++◌, refl, ◌∙◌, eq-eqb, ne_eqb}
 use mathlib.Core.Bool.{and-false}
 use mathlib.Core.Option.{none, some}
 use Rattle.lr1_base.specs.repr.Meaning.{Symbol, nonterminal, terminal, is_same_symbol, Production, Table, production_at}
-use Rattle.lr1_base.proofs.repr.SameSymbol.{same_refl, same_equal}
-use Rattle.lr1_base.proofs.repr.Lists.{cases, clash}
+use Rattle.lr1_base.proofs.repr.SameSymbol.{same_refl}
+use Rattle.lr1_base.proofs.repr.Lists.{cases}
 use Rattle.lr1_base.specs.lookahead.Tokens.{meet}
 use Rattle.first.specs.First.{disjoint, FIRST, nullable}
 use Rattle.enumerator.specs.example.Example.{ExampleSymbol, symbol, epsilon}

@@ -1,4 +1,4 @@
--- What gathering refuses is 12 to 14, and so is what the classes of a set of tokens refuse. Assumes nothing.
+-- What gathering refuses is 12 to 14, and so is what the classes of a set of tokens refuse.
 use Rattle.std.proofs.Common.{ℕ, zero, suc, ◌+◌, ◌≤◌, Bool, true, false, ltb, List, [], ◌∷◌, map, length, take, arith}
 use mathlib.Core.Option.{Option, none, some}
 use Prim.{Unit, tt}

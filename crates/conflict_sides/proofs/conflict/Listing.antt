@@ -1,5 +1,5 @@
 -- A side's listing is the plain lister's over the traced edges: asked often enough, what it hands out is what the side gathers, and its count at the end the trials; 13 and 14 are read
--- off its answers (part 8 of document 01, `listing_side` of specs/conflict/Sides). Assumes nothing.
+-- off its answers (docs/RULES.md, "Classes", `listing_side` of specs/conflict/Sides).
 use Rattle.std.proofs.Common.{◌≡◌, ℕ, ◌+◌, ◌<◌, ◌≤◌, Bool, true, false, ltb, List, ◌++◌, map, length, take, drop, sym, ap, ◌∙◌, ⊎_elim, arith, length-append, take-append-drop, take_all, take-take, le-ltb, lt-ltb}
 use mathlib.Core.Option.{Option}
 use Rattle.lr1_base.specs.repr.Sizes.{edge_limit, trial_limit, example_limit}

@@ -1,4 +1,4 @@
--- Document 01's marked examples, shown of the definitions that the contracts cite: one statement over one list. Assumes nothing.
+-- The marked examples (docs/RULES.md, "Table B"), shown of the definitions that the contracts cite: one statement over one list.
 use Rattle.std.proofs.Common.{◌≡◌, ℕ, Bool, true, false, List, [], ◌∷◌, ◌++◌, map, length, replicate, refl}
 use mathlib.Core.Option.{none, some}
 use Rattle.lr1_base.specs.repr.Sizes.{graph_room, scratch_words, classify_scratch, example_room}
@@ -90,7 +90,7 @@ buffer = replicate example_room 7
 unfoldable pub classified : Conflict → Entry
 classified c = classifying (classify_of table_b c scratch buffer buffer)
 
--- lines a and r of document 01: 5 3 0/0 1/0 0/0 1/0 0/0, then 2-5/0 0-5/0 and 0-3/0 0-5/0
+-- lines a and r of docs/RULES.md, "Table B": 5 3 0/0 1/0 0/0 1/0 0/0, then 2-5/0 0-5/0 and 0-3/0 0-5/0
 abbrev line_a : List ℕ
 line_a = 5 ∷ 3 ∷ 2 ∷ 0 ∷ 0 ∷ 1 ∷ 0 ∷ 0 ∷ 0 ∷ 1 ∷ 0 ∷ 0 ∷ 0 ∷ 2 ∷ 5 ∷ 0 ∷ 0 ∷ 5 ∷ 0 ∷ []
 

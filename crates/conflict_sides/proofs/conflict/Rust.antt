@@ -1,5 +1,5 @@
 -- The filter, the inline test and tracing's question, on answers of terminals and yes or no, are the Rust's on its sets, for every table: no class, example, count
--- or listing depends on how a nullable list is marked. Assumes nothing.
+-- or listing depends on how a nullable list is marked.
 use Rattle.std.proofs.Common.{◌≡◌, ℕ, List, [], ◌∷◌, refl}
 use Rattle.lr1_base.specs.repr.Meaning.{Symbol, is_same_symbol, Table}
 use Rattle.lr1_base.proofs.repr.Lists.{cases}

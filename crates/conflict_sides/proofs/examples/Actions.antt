@@ -1,4 +1,4 @@
--- `action_examples`: the side of the conflict's action, and by `reduced` the other side (error/specs/Sides). Assumes nothing.
+-- `action_examples`: the side of the conflict's action, and by `reduced` the other side (conflict_sides/specs/conflict/Sides).
 use Rattle.std.specs.Prelude.{◌&&◌, ltb, leb, length, Result, ◌≡◌, ℕ, zero, suc, Bool, true, false, eqb, List}
 use native.Mathlib.Omega.{arith}
 use mathlib.Core.Path.{refl, sym, subst}

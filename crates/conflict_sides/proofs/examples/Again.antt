@@ -1,4 +1,4 @@
--- The ways through `item_again`, `reduce_again` and `action_again`: an example of a listing made again (specs/examples/Again, `Made` of specs/examples/Gathers). Assumes nothing.
+-- The ways through `item_again`, `reduce_again` and `action_again`: an example of a listing made again (specs/examples/Again, `Made` of specs/examples/Gathers).
 use Rattle.std.specs.Prelude.{◌≡◌, ℕ, zero, suc, ◌/◌, ◌%◌, ◌<◌, ◌≤◌, Bool, true, false, eqb, List, ◌++◌, length}
 use native.Mathlib.Omega.{arith}
 use mathlib.Core.Path.{refl, sym, ap, ◌∙◌}

@@ -1,4 +1,4 @@
--- A listing's examples behind those of its side (specs/examples/Gathers): none yet, and one more. Assumes nothing.
+-- A listing's examples behind those of its side (specs/examples/Gathers): none yet, and one more.
 use Rattle.std.specs.Prelude.{◌≡◌, ℕ, suc, ◌+◌, ◌<◌, ◌≤◌, Bool, ltb, List, [], ◌∷◌, ◌++◌, length}
 use native.Mathlib.Omega.{arith}
 use mathlib.Core.Path.{refl, ◌∙◌}

@@ -1,4 +1,4 @@
--- What is in range of a conflict that fits its table, and the item of a reduce (error/specs/Sides). Assumes nothing.
+-- What is in range of a conflict that fits its table, and the item of a reduce (conflict_sides/specs/conflict/Sides).
 use Rattle.std.specs.Prelude.{◌≡◌, ℕ, zero, suc, ◌<◌, ◌≤◌, true, false, ◌&&◌, eqb, ltb, leb, List, length, get_or}
 use mathlib.Core.Path.{refl, sym, ap, ◌∙◌, subst}
 use mathlib.Core.Bool.{true≢false}

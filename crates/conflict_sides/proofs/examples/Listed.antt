@@ -1,4 +1,4 @@
--- The examples of a traced item's listing (`listing_side` of error/specs/Sides) are in range, begin with the item, and shift where it does. Assumes nothing.
+-- The examples of a traced item's listing (`listing_side` of conflict_sides/specs/conflict/Sides) are in range, begin with the item, and shift where it does.
 use Rattle.std.specs.Prelude.{◌≡◌, ℕ, ◌+◌, ◌*◌, ◌<◌, ◌≤◌, true, ltb, List, [], ◌∷◌, map, length, get_or, take}
 use native.Mathlib.Omega.{arith}
 use mathlib.Core.Path.{refl, sym, ap, ◌∙◌, subst}

@@ -1,4 +1,4 @@
--- A listing opens over every accepted trace, from the traced item, with any lookahead of the table (parts 5 and 6 of document 01). Assumes nothing.
+-- A listing opens over every accepted trace, from the traced item, with any lookahead of the table (docs/RULES.md, "Tracing", "Listing").
 use Rattle.std.proofs.Common.{◌≡◌, ℕ, true, List}
 use Rattle.lr1_base.specs.repr.Reply.{answered}
 use Rattle.lr1_base.specs.repr.Meaning.{Item, Table}

@@ -1,4 +1,4 @@
--- The ways through `open_view` and `list_item`: the trace's edges have a view, and their listing is that of error/specs/Sides. Assumes nothing.
+-- The ways through `open_view` and `list_item`: the trace's edges have a view, and their listing is that of conflict_sides/specs/conflict/Sides.
 use Rattle.std.specs.Prelude.{Result, Err, ◌≡◌, ℕ, ◌<◌, ◌≤◌, Bool, List, length, take, drop}
 use native.Mathlib.Omega.{arith}
 use mathlib.Core.Path.{subst, refl}

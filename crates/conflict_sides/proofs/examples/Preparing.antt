@@ -1,4 +1,4 @@
--- `prepare`: what it makes is what classifying reads of the table (specs/examples/Reads). Assumes nothing.
+-- `prepare`: what it makes is what classifying reads of the table (specs/examples/Reads).
 use Rattle.std.specs.Prelude.{◌≡◌, ℕ, ◌<◌, List, length, get_or}
 use mathlib.Core.Path.{sym, ◌∙◌, subst}
 use Rattle.lr1_base.specs.repr.Sizes.{production_limit}

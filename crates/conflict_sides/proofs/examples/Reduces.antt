@@ -1,4 +1,4 @@
--- `item` of a reduction and `reduce_examples`: the production at its end, filtered by the token (error/specs/Sides). Assumes nothing.
+-- `item` of a reduction and `reduce_examples`: the production at its end, filtered by the token (conflict_sides/specs/conflict/Sides).
 use Rattle.std.specs.Prelude.{Result, ◌≡◌, ℕ, ◌<◌, true, false, List, length, get_or}
 use native.Mathlib.Omega.{arith}
 use mathlib.Core.Path.{sym, ap, ◌∙◌, subst}

@@ -1,4 +1,4 @@
--- The ways through a turn of `find_example`: the examples passed so far, and the one at hand (specs/examples/Again). Assumes nothing.
+-- The ways through a turn of `find_example`: the examples passed so far, and the one at hand (specs/examples/Again).
 use Rattle.std.specs.Prelude.{◌≡◌, ℕ, zero, suc, ◌+◌, ◌-◌, ◌<◌, ◌≤◌, true, false, ltb, List, [], ◌∷◌, ◌++◌, length, get_or, drop}
 use native.Mathlib.Omega.{arith}
 use mathlib.Core.Path.{refl, sym, ap, ◌∙◌}

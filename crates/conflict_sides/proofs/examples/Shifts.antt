@@ -1,4 +1,4 @@
--- The ways through a turn of `shift_examples`: the items in their order, each one's listing behind those before it (error/specs/Sides). Assumes nothing.
+-- The ways through a turn of `shift_examples`: the items in their order, each one's listing behind those before it (conflict_sides/specs/conflict/Sides).
 use Rattle.std.specs.Prelude.{None, Result, Ok, Err, ◌≡◌, ℕ, suc, ◌+◌, ◌*◌, ◌<◌, ◌≤◌, Bool, true, List, [], ◌∷◌, ◌++◌, map, length, get_or, drop}
 use native.Mathlib.Omega.{arith}
 use mathlib.Core.Path.{refl, sym, ap, ◌∙◌}

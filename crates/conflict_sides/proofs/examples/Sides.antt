@@ -1,4 +1,4 @@
--- What is kept of a side with a listing's examples behind those before (specs/examples/Gathers): of a reduce's side, which is one listing, and of a shift's, a listing more. Assumes nothing.
+-- What is kept of a side with a listing's examples behind those before (specs/examples/Gathers): of a reduce's side, which is one listing, and of a shift's, a listing more.
 use Rattle.std.specs.Prelude.{Result, Ok, Err, ◌≡◌, ℕ, ◌+◌, ◌-◌, ◌*◌, ◌<◌, Bool, true, false, ltb, List, [], ◌++◌, length, get_or}
 use native.Mathlib.Omega.{arith}
 use mathlib.Core.Path.{refl, sym, ap, ◌∙◌, subst}

@@ -1,4 +1,4 @@
--- The listing of at most 1,024 edges trial by trial (specs/examples/Listing) is that of error/specs/Sides; more are refusal 12. Assumes nothing.
+-- The listing of at most 1,024 edges trial by trial (specs/examples/Listing) is that of conflict_sides/specs/conflict/Sides; more are refusal 12.
 use Rattle.std.specs.Prelude.{◌≡◌, ℕ, ◌+◌, ◌<◌, ◌≤◌, ltb, List, [], map, length, get_or, take}
 use mathlib.Core.Path.{sym, ◌∙◌}
 use mathlib.Core.Option.{Option}

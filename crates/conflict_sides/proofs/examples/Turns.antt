@@ -1,4 +1,4 @@
--- The ways through a turn of `list_outlines`: what is kept of the example that a search finds, and what of the listing is left (specs/examples/Listing, specs/examples/Gathers). Assumes nothing.
+-- The ways through a turn of `list_outlines`: what is kept of the example that a search finds, and what of the listing is left (specs/examples/Listing, specs/examples/Gathers).
 use Rattle.std.specs.Prelude.{Ok, Err, ◌≡◌, ℕ, suc, ◌+◌, ◌-◌, ◌<◌, ◌≤◌, Bool, List, [], ◌∷◌, ◌++◌, length, drop, set, replicate}
 use native.Mathlib.Omega.{arith}
 use mathlib.Core.Path.{refl, sym, ap, ◌∙◌}

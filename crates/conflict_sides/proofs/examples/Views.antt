@@ -1,4 +1,4 @@
--- A view and the labels of a trace from its edges' words, edge by edge (`view_codes`). Assumes nothing.
+-- A view and the labels of a trace from its edges' words, edge by edge (`view_codes`).
 use Rattle.std.proofs.Common.{◌≡◌, ℕ, ◌+◌, ◌*◌, ◌<◌, ◌≤◌, eqb, List, length, get_or, drop, set, replicate, sym, refl, ap, ◌∙◌, arith, length-drop, length-set, get_or-drop, get_or-set_other, get_or-set_same, eqb-true}
 use borrow.Author.Tests.{eqb-false}
 use Rattle.lr1_base.specs.repr.Sizes.{nonterminal_limit, edge_limit, production_room}

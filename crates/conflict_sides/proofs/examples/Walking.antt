@@ -1,4 +1,4 @@
--- A listing trial by trial (specs/examples/Listing) is the listing of error/specs/Sides, and what the answers of a search say of it. Assumes nothing.
+-- A listing trial by trial (specs/examples/Listing) is the listing of conflict_sides/specs/conflict/Sides, and what the answers of a search say of it.
 use Rattle.std.specs.Prelude.{◌≡◌, ℕ, zero, suc, ◌+◌, ◌<◌, ◌≤◌, Bool, true, false, ltb, List, [], ◌∷◌, map, length, take, drop}
 use mathlib.Core.Path.{refl, sym, ap, ◌∙◌}
 use native.Mathlib.Omega.{arith}

@@ -1,4 +1,4 @@
--- A search that goes from one trial of a listing to the next: where the words of a trial stand (`Walk`), and what the answers say of the listing that is left (specs/examples/Listing). Assumes nothing.
+-- A search that goes from one trial of a listing to the next: where the words of a trial stand (`Walk`), and what the answers say of the listing that is left (specs/examples/Listing).
 use Rattle.std.specs.Prelude.{◌≡◌, ℕ, suc, ◌-◌, ◌≤◌, Bool, List, [], ◌++◌, drop, replicate}
 use native.Mathlib.Omega.{arith}
 use mathlib.Core.Path.{refl, sym, ap, ◌∙◌}

@@ -1,4 +1,4 @@
--- Choosing which tokens of a conflict to report (`report_errors` without messages), part 9 of document 01. Assumes nothing: these are definitions.
+-- Choosing which tokens of a conflict to report (`report_errors` without messages; docs/RULES.md, "Choosing").
 use Rattle.std.specs.Prelude.{ℕ, zero, suc, ◌^◌, Bool, true, false, not, ◌&&◌, List, [], ◌∷◌, length, take, ◌==◌, nat_le, nat_lt}
 use Rattle.lr1_base.specs.repr.Sizes.{classify_scratch}
 use Rattle.lr1_base.specs.words.Lent.{zeroed}
@@ -94,7 +94,7 @@ module _ (W : ℕ) where
   unfoldable pub choose_with : List ℕ → Conflict → ℕ → List ℕ → Outcome
   choose_with t c set scratch = choose_by_with t c set scratch (check_of t)
 
--- over those of document 01; `choose_of` is `choose`
+-- over those of docs/RULES.md, "Lent words"; `choose_of` is `choose`
 abbrev pub chosen_in : Conflict → ℕ → List ℕ → Table → Outcome
 chosen_in = choose_in_with classify_scratch
 

@@ -40,7 +40,7 @@ pub record SameWords (t : List ℕ) (c : Conflict) (W W' : ℕ) (s s' : List ℕ
   pub classes : (action reduce : List ℕ) → SameClass W W' s s' (classify_with W t c s action reduce) (classify_with W' t c s' action reduce)
   pub choices : (set : ℕ) → SameChoice W W' s s' (choose_with W t c set s) (choose_with W' t c set s')
 
--- request 06: what is proved of `classify` and `choose`, over 8,000 words, beside document 01's over 32,000
+-- docs/RULES.md, "Lent words": what is proved of `classify` and `choose`, over 8,000 words, beside 32,000
 pub record EightThousand (t : List ℕ) (c : Conflict) (s s' : List ℕ) : Type 0 where
   pub classes : (action reduce : List ℕ) → SameClass 8000 32000 s s' (classify_of t c s action reduce) (classify_with 32000 t c s' action reduce)
   pub choices : (set : ℕ) → SameChoice 8000 32000 s s' (choose_of t c set s) (choose_with 32000 t c set s')

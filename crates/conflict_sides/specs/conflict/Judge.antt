@@ -1,4 +1,4 @@
--- The class of a conflict from what was gathered (`classify` and the three `try_classify_`), part 8 of document 01. Assumes nothing: these are definitions.
+-- The class of a conflict from what was gathered (`classify` and the three `try_classify_`; docs/RULES.md, "Classes").
 use Rattle.std.specs.Prelude.{ℕ, zero, suc, Bool, true, false, not, ◌&&◌, List, [], ◌∷◌, map, length, ◌==◌, nat_lt, slice_index_or, slice_range}
 use Rattle.std.proofs.Math.Option.{Option, none, some}
 use Rattle.lr1_base.specs.repr.Meaning.{Symbol, nonterminal, terminal, is_same_symbol, Production, Table, production_at}

@@ -1,4 +1,4 @@
--- One listing of a side read off the plain lister (part 8 of document 01): what `listing_side` of specs/conflict/Sides is by `listing_side_lem` of proofs/conflict/Listing. Assumes nothing: these are definitions.
+-- One listing of a side read off the plain lister (docs/RULES.md, "Classes"): what `listing_side` of specs/conflict/Sides is by `listing_side_lem` of proofs/conflict/Listing.
 use Rattle.std.specs.Prelude.{ℕ, ◌+◌, true, false, List, map, length, nat_lt}
 use Rattle.lr1_base.specs.repr.Sizes.{edge_limit, example_limit}
 use Rattle.lr1_base.specs.repr.Meaning.{Table}

@@ -1,4 +1,4 @@
--- Document 01's number of a class, and the class's own values in the order that it prints them. Assumes nothing: these are definitions.
+-- The number of a class (docs/RULES.md, "Classes"), and the class's own values in the order that it prints them.
 use Rattle.std.specs.Prelude.{ℕ, List, [], ◌∷◌, Result, Ok, Err}
 use Rattle.lr1_base.specs.declared.repr.refusals.Refusal.{Refusal}
 use Rattle.lr1_base.specs.repr.Reply.{number_of, place_of}

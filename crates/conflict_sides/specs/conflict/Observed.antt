@@ -1,4 +1,4 @@
--- The observed symbols (`report_error_not_lr1_core`), part 10 of document 01. Assumes nothing: these are definitions.
+-- The observed symbols (`report_error_not_lr1_core`; docs/RULES.md, "Observed symbols").
 use Rattle.std.specs.Prelude.{ℕ, ◌*◌, Bool, true, false, ◌&&◌, List, [], length, take, drop, nat_le, slice_index}
 use Rattle.lr1_base.specs.repr.Sizes.{reduction_place}
 

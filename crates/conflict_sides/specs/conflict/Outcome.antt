@@ -1,4 +1,4 @@
--- What `classify` answers and leaves: answer, scratch words, words of the two example buffers. Assumes nothing: these are definitions.
+-- What `classify` answers and leaves: answer, scratch words, words of the two example buffers.
 use Rattle.std.specs.Prelude.{ℕ, zero, suc, Bool, true, false, ◌&&◌, List, length, ◌==◌, nat_le, nat_lt}
 use Rattle.std.proofs.Math.Option.{Option, none, some}
 use Rattle.lr1_base.specs.repr.Sizes.{classify_scratch, example_room}
@@ -70,7 +70,7 @@ module _ (W : ℕ) where
   unfoldable pub classify_with : List ℕ → Conflict → List ℕ → List ℕ → List ℕ → Outcome
   classify_with t c scratch action reduce = classify_by_with t c scratch action reduce (check_of t)
 
--- over those of document 01; `classify_of` is `classify`
+-- over those of docs/RULES.md, "Lent words"; `classify_of` is `classify`
 abbrev pub judged_outcome : List Production → ℕ → ℕ → List ℕ → List ℕ → List ℕ → Judged → Outcome
 judged_outcome = judged_with classify_scratch
 

@@ -1,4 +1,4 @@
--- The filter and the inline test as the Rust has them, over its sets with end in them (specs/conflict/Rust of first). Assumes nothing: these are definitions.
+-- The filter and the inline test as the Rust has them, over its sets with end in them (specs/conflict/Rust of first).
 use Rattle.std.specs.Prelude.{ℕ, Bool, true, false, List, [], ◌∷◌}
 use Rattle.lr1_base.specs.repr.Meaning.{is_same_symbol, Table}
 use Rattle.first.specs.Rust.{rust_meets, rust_disjoint}

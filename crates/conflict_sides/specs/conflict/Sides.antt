@@ -1,5 +1,4 @@
--- What a conflict's two sides gather (`shift_examples`, `reduce_examples`), part 8 of document 01: all examples of the plain lister over the traced edges, kept by the filter.
--- Assumes nothing: these are definitions.
+-- What a conflict's two sides gather (`shift_examples`, `reduce_examples`; docs/RULES.md, "Classes"): all examples of the plain lister over the traced edges, kept by the filter.
 use Rattle.std.specs.Prelude.{ℕ, zero, suc, ◌+◌, true, false, List, [], ◌∷◌, ◌++◌, map, length, take, nat_lt, slice_index_or}
 use Rattle.std.proofs.Math.Option.{Option, none, some}
 use Rattle.lr1_base.specs.repr.Sizes.{edge_limit, trial_limit, example_limit}

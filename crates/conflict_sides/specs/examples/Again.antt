@@ -1,4 +1,4 @@
--- Making one example of a side again: the listing goes on to the one wanted, k others before it. Assumes nothing: these are definitions.
+-- Making one example of a side again: the listing goes on to the one wanted, k others before it.
 use Rattle.std.specs.Prelude.{◌≡◌, ℕ, ◌<◌, ◌≤◌, Bool, true, false, List, ◌++◌, length}
 use Rattle.lr1_base.specs.repr.Sizes.{example_limit}
 use Rattle.lr1_base.specs.repr.Meaning.{Production}

@@ -1,4 +1,4 @@
--- What the functions that list a side answer, and what is kept of its examples. Assumes nothing: these are definitions.
+-- What the functions that list a side answer, and what is kept of its examples.
 use Rattle.std.specs.Prelude.{◌≡◌, ℕ, zero, suc, ◌+◌, ◌<◌, ◌≤◌, Bool, true, false, List, length, ◌==◌, ◌≢◌, Option as OptionOf, Result, Ok, Err}
 use Rattle.std.proofs.Math.Option.{none}
 use Rattle.lr1_base.specs.repr.Sizes.{reduction_limit, example_limit}

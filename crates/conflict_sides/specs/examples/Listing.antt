@@ -1,5 +1,4 @@
--- One listing from its first trial to the end or to a refusal, trial by trial: what the loop over the search makes. `listing_is` of proofs/examples/Traces: it is `listing_side` of error/specs/Sides past refusal 12.
--- Assumes nothing: these are definitions.
+-- One listing from its first trial to the end or to a refusal, trial by trial: what the loop over the search makes. `listing_is` of proofs/examples/Traces: it is `listing_side` of conflict_sides/specs/conflict/Sides past refusal 12.
 use Rattle.std.specs.Prelude.{ℕ, zero, suc, Bool, true, false, List, [], ◌∷◌, ◌++◌, nat_lt}
 use Rattle.std.proofs.Math.Option.{Option}
 use Rattle.lr1_base.specs.repr.Sizes.{trial_limit, example_limit}

@@ -1,4 +1,4 @@
--- What classifying reads of a table: its productions in words, its FIRST sets, and what tracing goes by, each made once. Assumes nothing: these are definitions.
+-- What classifying reads of a table: its productions in words, its FIRST sets, and what tracing goes by, each made once.
 use Rattle.std.specs.Prelude.{◌≡◌, ℕ, ◌<◌, List, length, slice_index}
 use Rattle.lr1_base.specs.repr.Sizes.{production_limit}
 use Rattle.lr1_base.specs.repr.Packed.{Packed, productions_in}

@@ -1,4 +1,4 @@
--- The inline test (`try_classify_inline_example`, part 8 of document 01) on what is kept of two examples: on the suffixes of two items. Assumes nothing: these are definitions.
+-- The inline test (`try_classify_inline_example`; docs/RULES.md, "Classes") on what is kept of two examples: on the suffixes of two items. Assumes nothing: these are definitions.
 use Rattle.std.specs.Prelude.{ℕ, ◌/◌, ◌%◌, ◌<◌, ◌≤◌, Bool, true, false, ◌&&◌, List, [], ◌∷◌, length, nat_lt, slice_index_or, Option as OptionOf, Some, None}
 use Rattle.lr1_base.specs.repr.Sizes.{index_limit, item_limit}
 use Rattle.lr1_base.specs.repr.Meaning.{Symbol, is_same_symbol, Production, no_production, Table}

@@ -1,4 +1,4 @@
--- What is kept of an example while a conflict is judged (request 06 of document 02): its number of places, a print of its reading, the nonterminal of its first
+-- What is kept of an example while a conflict is judged: its number of places, a print of its reading, the nonterminal of its first
 -- reduction, and one label. Assumes nothing: these are definitions.
 use Rattle.std.specs.Prelude.{ℕ, ◌+◌, ◌*◌, ◌%◌, ◌^◌, ◌<◌, ◌≤◌, Bool, true, false, ◌||◌, List, [], ◌∷◌, length, ◌==◌, Option as OptionOf, Some, None}
 use Rattle.lr1_base.specs.repr.Sizes.{nonterminal_limit, index_limit, item_limit, example_symbols}

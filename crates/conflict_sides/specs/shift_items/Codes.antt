@@ -1,4 +1,4 @@
--- Items as codes, production * 17 + index: those of a state marked, and those wanted. Assumes nothing: these are definitions.
+-- Items as codes, production * 17 + index: those of a state marked, and those wanted.
 use Rattle.std.specs.Prelude.{◌≡◌, ℕ, ◌+◌, ◌*◌, ◌/◌, ◌%◌, Bool, ◌&&◌, List, [], ◌∷◌, length}
 use Rattle.lr1_base.specs.repr.Sizes.{index_limit}
 use Rattle.lr1_base.specs.repr.Meaning.{Item, Table}

@@ -1,5 +1,5 @@
 -- A state's shift items by places, 16 indexes for each production in their order: those that are left from a place on. `left_all_lem` of proofs/shift_items/Left: from 0 on they are
--- `shift_items` of error. Assumes nothing: these are definitions.
+-- `shift_items` of error.
 use Rattle.std.specs.Prelude.{◌≡◌, ℕ, ◌*◌, ◌/◌, ◌%◌, ◌<◌, Bool, ◌&&◌, List, map, length, drop, slice_index}
 use Rattle.lr1_base.specs.repr.Sizes.{production_limit, symbol_limit, item_flags}
 use Rattle.lr1_base.specs.repr.Lists.{below, keep, some?}

@@ -1,4 +1,4 @@
--- A step of the iterator over the items that a conflict shifts: the first of those that are left from its place on, and the place behind that one's. Assumes nothing: these are definitions.
+-- A step of the iterator over the items that a conflict shifts: the first of those that are left from its place on, and the place behind that one's.
 use Rattle.std.specs.Prelude.{Option, MatchOption, ◌≡◌, ◌*◌, ◌<◌, ◌≤◌, List}
 use Rattle.std.specs.Iterator.{YieldsFirstBy}
 use Rattle.lr1_base.specs.repr.Sizes.{symbol_limit}

@@ -1,4 +1,4 @@
--- The words of an answer, and the entries read back from them (specs/choice/Words). Assumes nothing.
+-- The words of an answer, and the entries read back from them (specs/choice/Words).
 use mathlib.Core.Path.{◌≡◌, refl, sym, ap, subst, ◌∙◌}
 use mathlib.Core.List.{List, [], ◌∷◌, ◌++◌, map}
 use Prim.Native.Nat.{ℕ, zero, suc, ◌+◌, ◌*◌, ◌-◌, ◌≤◌, ◌<◌}

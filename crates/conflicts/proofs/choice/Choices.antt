@@ -1,4 +1,4 @@
--- What is chosen of the classes, and refusals 9 to 11 (error/specs/Choose). Assumes nothing.
+-- What is chosen of the classes, and refusals 9 to 11 (conflict_sides/specs/conflict/Choose).
 use mathlib.Core.Path.{◌≡◌, refl, sym, ap, subst, ◌∙◌}
 use mathlib.Core.Bool.{Bool, true, false, ◌&&◌, not}
 use mathlib.Core.List.{List, [], ◌∷◌, ◌++◌}

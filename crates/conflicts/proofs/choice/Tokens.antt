@@ -1,4 +1,4 @@
--- One token of the set, and the tokens that are left (specs/choice/Choosing). Assumes nothing.
+-- One token of the set, and the tokens that are left (specs/choice/Choosing).
 use mathlib.Core.Path.{◌≡◌, refl, sym, ap, subst, ◌∙◌}
 use mathlib.Core.Bool.{Bool, true, false}
 use mathlib.Core.List.{List, [], ◌∷◌, ◌++◌, append_assoc, append-nil}

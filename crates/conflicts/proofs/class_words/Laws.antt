@@ -1,4 +1,4 @@
--- Classes in words, the words with one entry more, and entries copied (specs/class_words/Entries). Assumes nothing.
+-- Classes in words, the words with one entry more, and entries copied (specs/class_words/Entries).
 use mathlib.Core.Path.{◌≡◌, refl, sym, ap, ◌∙◌}
 use mathlib.Core.List.{List, [], ◌∷◌, ◌++◌, map, map-append, append_assoc, append-nil}
 use Prim.Native.Nat.{ℕ, zero, suc, ◌-◌, ◌+◌, ◌*◌, ◌≤◌, ◌<◌}

@@ -1,4 +1,4 @@
--- The ways through the functions of this crate: refusals 9 to 11, what was gathered, what was judged and shown (error/specs/Outcome). Assumes nothing.
+-- The ways through the functions of this crate: refusals 9 to 11, what was gathered, what was judged and shown (conflict_sides/specs/conflict/Outcome).
 use mathlib.Core.Path.{◌≡◌, refl, sym, ap, subst, ◌∙◌}
 use mathlib.Core.Bool.{Bool, true, false, ◌&&◌}
 use mathlib.Core.List.{List, [], ◌∷◌, ◌++◌, map}

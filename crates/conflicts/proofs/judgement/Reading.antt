@@ -1,4 +1,4 @@
--- Laws of two examples in buffers compared by their words, one for each way through `same_words` and `same_reading`. Assumes nothing.
+-- Laws of two examples in buffers compared by their words, one for each way through `same_words` and `same_reading`.
 use Prim.Native.Nat.{ℕ, suc, ◌+◌, ◌-◌, ◌*◌, ◌≤◌}
 use native.Mathlib.Omega.{arith}
 use mathlib.Core.Path.{◌≡◌, refl, sym, ap, ◌∙◌}

@@ -1,4 +1,4 @@
--- Laws of two sides as they are kept, one for each way through the code: an example made again, the first pair that is read alike, the inline test, and from what is read of a table to the judgement. Assumes nothing.
+-- Laws of two sides as they are kept, one for each way through the code: an example made again, the first pair that is read alike, the inline test, and from what is read of a table to the judgement.
 use Prim.Native.Nat.{ℕ, zero, suc, ◌+◌, ◌≤◌, ◌<◌}
 use native.Mathlib.Omega.{arith}
 use mathlib.Core.Path.{◌≡◌, refl, sym, ap, ◌∙◌}
@@ -7,7 +7,7 @@ use mathlib.Core.List.{List, [], ◌∷◌}
 use mathlib.Core.Option.{none, some}
 use lib.ListN.{length, get_or}
 use lib.Dec.{ltb}
-use borrow.Author.Tests.{eq-eqb, ltb-true, leb-true}
+use borrow.Author.Tests.{ltb-true, leb-true}
 use Rattle.std.specs.Prelude.{Option as OptionOf, Some, None}
 use Rattle.lr1_base.specs.repr.Symbols.{meant}
 use Rattle.lr1_base.specs.declared.repr.Symbol.{Symbol as SymbolOf}
@@ -15,7 +15,6 @@ use Rattle.lr1_base.specs.repr.Sizes.{nonterminal_limit, terminal_limit, product
 use Rattle.lr1_base.specs.repr.Meaning.{Production, no_production, Table, TableFits, ProductionFits, production_at, All}
 use Rattle.lr1_base.specs.repr.Listed.{symbol_of_kind}
 use Rattle.lr1_base.specs.repr.Packed.{Packed, productions_in}
-use Rattle.lr1_base.proofs.repr.Lists.{clash}
 use Rattle.lr1_base.proofs.repr.Tests.{All_at, All_intro}
 use Rattle.lr1_base.specs.words.Lent.{in_front}
 use Rattle.table.specs.Decoded.{meaning}
@@ -29,7 +28,7 @@ use Rattle.conflict_sides.specs.declared.conflict.Class.TheVariants.{SuggestInli
 use Rattle.conflict_sides.specs.declared.conflict.Conflict.{Conflict}
 use Rattle.conflict_sides.specs.conflict.Sorted.{Pair, first_fit}
 use Rattle.conflict_sides.specs.conflict.Judge.{Example, Judged, with_both, reduction_at, is_same_reading, ambiguity_of_shift, ambiguity_of_reduce, ambiguity_of, question_of, inlines, inline_or, question_or, unambiguous, ambiguous_or, judge}
-use Rattle.conflict_sides.specs.conflict.Outcome.{operand_fits, place_is_fit, conflict_fits}
+use Rattle.conflict_sides.specs.conflict.Outcome.{place_is_fit, conflict_fits}
 use Rattle.conflict_sides.specs.declared.outline.Outline.{Outline}
 use Rattle.conflict_sides.specs.outline.Outline.{label_of, outline_from}
 use Rattle.conflict_sides.specs.outline.Kept.{outlines_room, nth, outline_in, turn_in, Room, Outlined, labelled_limit, KeptLabels}

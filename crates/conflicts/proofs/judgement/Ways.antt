@@ -1,4 +1,4 @@
--- Laws of the class from its parts (specs/conflict/Judge of conflict_sides), one for each way through the code: the operator, the two ambiguities, the question. Assumes nothing.
+-- Laws of the class from its parts (specs/conflict/Judge of conflict_sides), one for each way through the code: the operator, the two ambiguities, the question.
 use Prim.Native.Nat.{ℕ, zero, suc, ◌+◌, ◌*◌, ◌<◌}
 use native.Mathlib.Omega.{arith}
 use mathlib.Core.Path.{◌≡◌, refl, sym, ap, ◌∙◌}

@@ -1,4 +1,4 @@
--- What choosing answers by value, and the tokens of the set one after another: better classes and naive ones apart. Assumes nothing: these are definitions.
+-- What choosing answers by value, and the tokens of the set one after another: better classes and naive ones apart.
 use Rattle.std.specs.Prelude.{Result, Ok, Err, ℕ, zero, suc, ◌+◌, ◌≤◌, ◌≡◌, Bool, not, List, ◌++◌}
 use Rattle.lr1_base.specs.declared.repr.refusals.Refusal.{Refusal}
 use Rattle.lr1_base.specs.repr.Reply.{number_of, place_of}

@@ -1,4 +1,4 @@
--- The words of an answer. Assumes nothing: these are definitions.
+-- The words of an answer.
 use Rattle.std.specs.Prelude.{ℕ, ◌*◌, ◌-◌, List, ◌++◌, length, replicate}
 use Rattle.lr1_base.specs.repr.Sizes.{entry_room, entries_room}
 use Rattle.lr1_base.specs.repr.Lists.{joined}

@@ -1,5 +1,4 @@
 -- A token with its class in six words: token, class number, up to four own values, zeros.
--- Assumes nothing: these are definitions.
 use Rattle.std.specs.Prelude.{ℕ, zero, suc, ◌+◌, List, [], ◌∷◌, map, get_or, take, drop}
 use Rattle.lr1_base.specs.repr.Sizes.{entry_place}
 use Rattle.lr1_base.specs.repr.Lists.{below}

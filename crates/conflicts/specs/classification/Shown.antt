@@ -1,4 +1,4 @@
--- A class with the words of the two example buffers. Assumes nothing: these are definitions.
+-- A class with the words of the two example buffers.
 use Rattle.std.specs.Prelude.{ℕ, List}
 use Rattle.lr1_base.specs.repr.Meaning.{Production}
 use Rattle.conflict_sides.specs.declared.conflict.Class.{Class}

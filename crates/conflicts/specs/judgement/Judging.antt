@@ -1,4 +1,4 @@
--- What the contracts of this crate cite: two sides as they are kept, a class with the numbers of the examples shown, the first pair that is read alike. Assumes nothing: these are definitions.
+-- What the contracts of this crate cite: two sides as they are kept, a class with the numbers of the examples shown, the first pair that is read alike.
 use Rattle.std.specs.Prelude.{Option as OptionOf, Some, None, ℕ, ◌≤◌, ◌<◌, ◌≡◌, false, List, [], ◌∷◌, map, length, get_or}
 use Rattle.std.proofs.Math.Option.{Option, none, some}
 use Rattle.lr1_base.specs.repr.Sizes.{example_room}

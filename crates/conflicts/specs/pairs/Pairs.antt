@@ -1,5 +1,4 @@
--- The pairs of two orders from a place on, in product order, and the first of them that passes a test (`try_classify_ambiguity` and `try_classify_inline`, part 8 of document 01; request 06 of
--- document 02). Assumes nothing: these are definitions.
+-- The pairs of two orders from a place on, in product order, and the first of them that passes a test (`try_classify_ambiguity` and `try_classify_inline`; docs/RULES.md, "Classes", "Lent words").
 use Rattle.std.specs.Prelude.{Option as OptionOf, Some, None, ℕ, ◌+◌, ◌<◌, ◌≡◌, Bool, true, false, List, ◌++◌, length, get_or, take, drop, eqb}
 use Rattle.std.proofs.Math.Option.{Option, none, some}
 use Rattle.lr1_base.specs.repr.Sizes.{item_limit, example_limit}

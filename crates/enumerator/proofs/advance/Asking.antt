@@ -1,4 +1,4 @@
--- What is asked before the words are: the start item, the lookahead and the graph, refusal 9, a law for each way. Assumes nothing.
+-- What is asked before the words are: the start item, the lookahead and the graph, refusal 9, a law for each way.
 use Prim.Native.Nat.{ℕ, zero, suc, ◌≤◌, ◌<◌}
 use mathlib.Core.Path.{◌≡◌, refl, sym, ap, ◌∙◌}
 use mathlib.Core.Bool.{Bool, true, false, ◌&&◌}

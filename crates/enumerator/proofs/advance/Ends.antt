@@ -1,4 +1,4 @@
--- Whether an item is an end of an edge (refusal 15), as the code looks for it. Assumes nothing.
+-- Whether an item is an end of an edge (refusal 15), as the code looks for it.
 use Prim.Native.Nat.{ℕ, zero, suc, ◌+◌}
 use native.Mathlib.Numerals.{add-one}
 use mathlib.Core.Path.{◌≡◌, refl, sym, ap, ◌∙◌}

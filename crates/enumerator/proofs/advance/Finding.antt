@@ -1,4 +1,4 @@
--- The search of an open listing: the words that it starts from, and what its answer makes of the listing, the scratch and the buffer. Assumes nothing.
+-- The search of an open listing: the words that it starts from, and what its answer makes of the listing, the scratch and the buffer.
 use Prim.Native.Nat.{ℕ, zero, suc, ◌-◌, ◌≤◌}
 use native.Mathlib.Omega.{arith}
 use mathlib.Core.Path.{◌≡◌, refl, sym, ap, ◌∙◌}

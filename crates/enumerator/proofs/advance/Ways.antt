@@ -1,4 +1,4 @@
--- The ways through opening and through a call (specs/trials/Advance), a law for each. Assumes nothing.
+-- The ways through opening and through a call (specs/trials/Advance), a law for each.
 use Prim.Native.Nat.{ℕ, ◌-◌, ◌≤◌, ◌<◌}
 use mathlib.Core.Path.{◌≡◌, sym, ◌∙◌}
 use mathlib.Core.Bool.{Bool, true, false, and-false}

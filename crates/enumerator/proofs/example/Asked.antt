@@ -1,4 +1,4 @@
--- What the filter asks label by label (`asked_parts` of specs/example/Example): joined it is what the example expects next; one law for each way through `first0`. Assumes nothing.
+-- What the filter asks label by label (`asked_parts` of specs/example/Example): joined it is what the example expects next; one law for each way through `first0`.
 use Rattle.std.proofs.Common.{◌≡◌, ℕ, zero, suc, ◌+◌, ◌<◌, ◌≤◌, true, false, List, [], ◌∷◌, ◌++◌, map, length, get_or, drop, sym, refl, ap, ◌∙◌, append_assoc, arith, drop_of_length-le, drop-cons}
 use Rattle.lr1_base.specs.repr.Lists.{joined}
 use Rattle.lr1_base.specs.repr.Meaning.{Symbol, Production}

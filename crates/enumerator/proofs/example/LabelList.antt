@@ -1,4 +1,4 @@
--- Laws of labels in words (specs/example/Labels, specs/example/Written): how many, label by label, each in range of the packed productions. Assumes nothing.
+-- Laws of labels in words (specs/example/Labels, specs/example/Written): how many, label by label, each in range of the packed productions.
 use Rattle.std.proofs.Common.{◌≡◌, ℕ, zero, suc, ◌+◌, ◌*◌, ◌/◌, ◌<◌, ◌≤◌, ltb, List, [], ◌∷◌, ◌++◌, length, get_or, take, drop, sym, refl, ap, add-one, arith, drop-cons, take-suc, ltb-false, ltb-true}
 use lib.ListN.{get_or-eq_default}
 use Rattle.lr1_base.specs.repr.Sizes.{production_place, grammar_room, reduction_limit, label_room}

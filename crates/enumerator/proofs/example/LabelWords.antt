@@ -1,4 +1,4 @@
--- Labels in words, three each, written one after another and read back. Assumes nothing.
+-- Labels in words, three each, written one after another and read back.
 use Rattle.std.proofs.Common.{◌≡◌, ℕ, ◌+◌, ◌≤◌, List, [], ◌∷◌, ◌++◌, length, take, drop, set, sym, refl, ap, ◌∙◌, append_assoc, append-nil, arith, length-append, length-take-le, take_at}
 use Rattle.lr1_base.specs.repr.Lists.{joined}
 use Rattle.lr1_base.proofs.repr.Lists.{joined_append}

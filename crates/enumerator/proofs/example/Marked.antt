@@ -1,4 +1,4 @@
--- Request 03's marked list, computed from the definitions: how many labels the filter asks. Assumes nothing.
+-- The marked list of what the filter asks (docs/RULES.md, "Listing"), computed from the definitions: how many labels the filter asks.
 use Rattle.std.proofs.Common.{◌≡◌, ℕ, List, [], ◌∷◌, map, refl}
 use Rattle.lr1_base.specs.words.Same.{same_words}
 use Rattle.lr1_base.specs.repr.Meaning.{Symbol, nonterminal, terminal, Production}

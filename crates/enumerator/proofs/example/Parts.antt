@@ -1,4 +1,4 @@
--- Laws of symbols in words (`words_of` and `Part` of specs/example/Written): the parts of the packed words that a label's item has. Assumes nothing.
+-- Laws of symbols in words (`words_of` and `Part` of specs/example/Written): the parts of the packed words that a label's item has.
 use Rattle.std.proofs.Common.{◌≡◌, ℕ, zero, suc, ◌+◌, ◌-◌, ◌*◌, ◌<◌, ◌≤◌, true, false, List, [], ◌∷◌, ◌++◌, map, length, get_or, take, drop, sym, refl, ap, ◌∙◌, arith, drop_of_length-le}
 use mathlib.Core.List.{map-append}
 use mathlib.Core.Option.{Option, none, some}

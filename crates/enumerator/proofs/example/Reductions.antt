@@ -1,4 +1,4 @@
--- The reductions innermost first (`around` of specs/example/Written) are those of specs/example/Example, built outermost first as in the Rust. Assumes nothing.
+-- The reductions innermost first (`around` of specs/example/Written) are those of specs/example/Example, built outermost first as in the Rust.
 use Rattle.std.proofs.Common.{◌≡◌, ℕ, ◌+◌, ◌-◌, ◌*◌, List, [], ◌∷◌, ◌++◌, reverse, length, refl, ap, ◌∙◌, arith}
 use mathlib.Core.List.{reverse-cons, reverse-append}
 use Rattle.lr1_base.specs.repr.Sizes.{reduction_room}

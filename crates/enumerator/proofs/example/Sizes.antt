@@ -1,4 +1,4 @@
--- How long an example is (part 7 of document 01): at most 528 symbols and 33 reductions of 33 labels, so at most 1,158 words. Assumes nothing.
+-- How long an example is (docs/RULES.md, "An example in words"): at most 528 symbols and 33 reductions of 33 labels, so at most 1,158 words.
 use Rattle.std.proofs.Common.{◌≡◌, ℕ, suc, ◌+◌, ◌-◌, ◌*◌, ◌≤◌, ltb, List, [], ◌∷◌, ◌++◌, map, reverse, length, get_or, take, drop, refl, ap, ◌∙◌, arith, length-append, length-drop, length-take, ltb-false, ltb-true}
 use lib.ListN.{length-reverse, get_or-eq_default}
 use Rattle.lr1_base.specs.repr.Sizes.{reduction_limit, example_symbols, reduction_room, example_room}

@@ -1,18 +1,16 @@
--- What a caller of the search has and gets: words that hold a trial, the trials after it, what an answer says (specs/filter/Given, specs/filter/Found). Assumes nothing.
+-- What a caller of the search has and gets: words that hold a trial, the trials after it, what an answer says (specs/filter/Given, specs/filter/Found).
 use Rattle.std.specs.Prelude.{◌≡◌, ℕ, zero, suc, ◌≤◌, Bool, true, false, List, [], ◌∷◌, ◌++◌, length, drop}
 use native.Mathlib.Omega.{arith}
-use mathlib.Core.Path.{refl, sym, ap, ◌∙◌, subst}
+use mathlib.Core.Path.{refl, sym, ap, ◌∙◌}
 use mathlib.Core.List.{Memᴰ}
 use lib.ListN.{take-append-drop}
 use Rattle.lr1_base.specs.repr.Sizes.{scratch_words}
-use Rattle.lr1_base.specs.words.Same.{same_words}
 use Rattle.lr1_base.specs.repr.Meaning.{Production}
 use Rattle.trace_graph.specs.Graph.{Node, TraceEdge}
 use Rattle.enumerator.specs.trials.Trials.{Path, Ends, ends_of, trials}
 use Rattle.enumerator.specs.trials.Lister.{Found, hit, out, over, search}
 use Rattle.enumerator.specs.trials.Words.{words_of, path_in, has_trial, after}
 use Rattle.enumerator.specs.trials.Advance.{rest_of}
-use Rattle.enumerator.proofs.trials.After.{after_here, after-later}
 use Rattle.enumerator.proofs.trials.Exact.{sound}
 use Rattle.enumerator.proofs.trials.Short.{short_trial}
 use Rattle.enumerator.proofs.trials.Search.{search-hit, search_on}

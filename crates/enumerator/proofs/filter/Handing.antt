@@ -1,4 +1,4 @@
--- The ways through the filter (`meets`, `passes`, `hands`), by specs/filter/Filter, and the example that `write_trial` writes. Assumes nothing.
+-- The ways through the filter (`meets`, `passes`, `hands`), by specs/filter/Filter, and the example that `write_trial` writes.
 use Rattle.std.specs.Prelude.{◌≡◌, ℕ, Bool, true, false, ◌&&◌, List, ◌++◌, reverse, length}
 use mathlib.Core.Path.{sym, ap, subst, ◌∙◌}
 use mathlib.Core.List.{reverse-reverse}

@@ -1,4 +1,4 @@
--- The filter over its parts is the plain lister's over a table (specs/filter/Filter), and a search asks its test of each path alone. Assumes nothing.
+-- The filter over its parts is the plain lister's over a table (specs/filter/Filter), and a search asks its test of each path alone.
 use Rattle.std.specs.Prelude.{◌≡◌, ℕ, zero, suc, Bool, true, false, List, [], ◌∷◌}
 use mathlib.Core.Path.{refl, sym, ◌∙◌}
 use mathlib.Core.Option.{Option, none, some}

@@ -1,4 +1,4 @@
--- The labels of a trial in words, as `write_labels` writes them: edge by edge, three words each, all in range. Assumes nothing.
+-- The labels of a trial in words, as `write_labels` writes them: edge by edge, three words each, all in range.
 use Rattle.std.specs.Prelude.{◌≡◌, ℕ, suc, ◌+◌, ◌*◌, ◌/◌, ◌%◌, ◌<◌, ◌≤◌, List, [], ◌∷◌, ◌++◌, map, length, get_or, take, drop, set}
 use native.Mathlib.Omega.{arith}
 use mathlib.Core.Path.{refl, sym, ap, ◌∙◌}

@@ -1,4 +1,4 @@
--- The ways through a turn of `search`: the machine's walk over the trials that are left finds what the search over all finds. Assumes nothing.
+-- The ways through a turn of `search`: the machine's walk over the trials that are left finds what the search over all finds.
 use Rattle.std.specs.Prelude.{◌≡◌, ℕ, suc, ◌+◌, ◌-◌, ◌<◌, ◌≤◌, Bool, true, false, List, [], ◌∷◌, ◌++◌, map, reverse, length, drop}
 use native.Mathlib.Omega.{arith}
 use mathlib.Core.Path.{refl, sym, ap, ◌∙◌}

@@ -1,4 +1,4 @@
--- The counts of a walk that the code of the machine keeps (specs/graph_view/Steps), by the words of a trial. Assumes nothing.
+-- The counts of a walk that the code of the machine keeps (specs/graph_view/Steps), by the words of a trial.
 use Prim.Native.Nat.{ℕ, zero, suc, ◌+◌, ◌-◌, ◌≤◌, ◌<◌}
 use native.Mathlib.Omega.{arith}
 use mathlib.Core.Path.{◌≡◌, refl, sym, ap, subst, ◌∙◌}

@@ -1,4 +1,4 @@
--- The labels of a graph's edges, made edge by edge (`view_edge`). Assumes nothing.
+-- The labels of a graph's edges, made edge by edge (`view_edge`).
 use Prim.Native.Nat.{ℕ, ◌+◌, ◌*◌, ◌/◌, ◌%◌, ◌≤◌, ◌<◌}
 use native.Mathlib.Omega.{arith}
 use native.Mathlib.Decide.{ℕ_discrete}

@@ -1,4 +1,4 @@
--- A view made edge by edge (src/making.rt). Assumes nothing.
+-- A view made edge by edge (src/making.rt).
 use Prim.Native.Nat.{ℕ, zero, suc, ◌+◌, ◌≤◌, ◌<◌}
 use native.Mathlib.Omega.{arith}
 use mathlib.Core.Path.{◌≡◌, refl, sym, ap, subst, ◌∙◌}

@@ -1,4 +1,4 @@
--- The nonterminal of a node, as `node_owner` reads it. Assumes nothing.
+-- The nonterminal of a node, as `node_owner` reads it.
 use Prim.Native.Nat.{ℕ, zero, suc, ◌≤◌, ◌<◌}
 use native.Mathlib.Omega.{arith}
 use mathlib.Core.Path.{◌≡◌, refl, sym, ap, ◌∙◌}
@@ -10,7 +10,7 @@ use Rattle.lr1_base.specs.repr.Meaning.{Production, no_production, Item}
 use Rattle.lr1_base.specs.repr.Packed.{production_in, productions_in, Packed}
 use Rattle.lr1_base.proofs.repr.Lists.{get_d_map-below}
 use Rattle.trace_graph.specs.declared.Node.{Node as NodeValue}
-use Rattle.trace_graph.specs.Graph.{at_nonterminal, at_item}
+use Rattle.trace_graph.specs.Graph.{at_item}
 use Rattle.trace_graph.specs.Words.{node_of}
 use Rattle.trace_graph.specs.Fits.{item_is_fit}
 use Rattle.trace_graph.specs.Index.{InRange}

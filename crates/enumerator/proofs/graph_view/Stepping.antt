@@ -1,4 +1,4 @@
--- The ways through the code of the machine (src/machine.rt), over the words of a trial. Assumes nothing.
+-- The ways through the code of the machine (src/machine.rt), over the words of a trial.
 use Prim.Native.Nat.{ℕ, suc, ◌-◌, ◌≤◌, ◌<◌}
 use native.Mathlib.Omega.{arith}
 use mathlib.Core.Path.{◌≡◌, sym, ap, ◌∙◌}

@@ -1,4 +1,4 @@
--- The ways through each step over a view's words (specs/graph_view/Steps). Assumes nothing.
+-- The ways through each step over a view's words (specs/graph_view/Steps).
 use Prim.Native.Nat.{ℕ, zero, suc, ◌≤◌}
 use native.Mathlib.Omega.{arith}
 use mathlib.Core.Path.{◌≡◌, refl, ap, ◌∙◌}

@@ -1,10 +1,10 @@
--- Words that hold a stack (specs/graph_view/Trial): an edge more, another last edge, one fewer; the words of one stack are those of no other; with zeros behind them they are those of specs/trials/Words. Assumes nothing.
+-- Words that hold a stack (specs/graph_view/Trial): an edge more, another last edge, one fewer; the words of one stack are those of no other; with zeros behind them they are those of specs/trials/Words.
 use Prim.Native.Nat.{ℕ, suc, ◌+◌, ◌-◌, ◌≤◌, ◌<◌}
 use native.Mathlib.Omega.{arith}
 use mathlib.Core.Path.{◌≡◌, refl, sym, ap, ◌∙◌}
-use mathlib.Core.List.{List, [], ◌∷◌, ◌++◌, reverse, append_assoc, reverse-cons, reverse-reverse, reverse-append}
+use mathlib.Core.List.{List, [], ◌∷◌, ◌++◌, reverse, append_assoc, reverse-cons, reverse-reverse}
 use lib.ListN.{length, get_or, set, take, drop, replicate, length-append, length-reverse, length-replicate, replicate-append-replicate}
-use lib.Seq.{set_at, get_or_at, take_at, take-suc, drop-append_seam}
+use lib.Seq.{set_at, get_or_at, take_at, drop-append_seam}
 use Rattle.lr1_base.specs.repr.Sizes.{scratch_words, edge_limit, reduction_limit}
 use Rattle.enumerator.specs.trials.Trials.{Path}
 use Rattle.enumerator.specs.trials.Words.{words_of, path_in, path_room}

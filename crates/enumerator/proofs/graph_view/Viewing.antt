@@ -1,4 +1,4 @@
--- Over the view of a graph the steps by its words (specs/graph_view/Steps) are those of the machine (specs/trials/Machine). Assumes nothing.
+-- Over the view of a graph the steps by its words (specs/graph_view/Steps) are those of the machine (specs/trials/Machine).
 use Prim.Native.Nat.{ℕ, suc, ◌≤◌, ◌<◌}
 use native.Mathlib.Omega.{arith}
 use mathlib.Core.Path.{◌≡◌, refl, sym, ap, subst, ◌∙◌}

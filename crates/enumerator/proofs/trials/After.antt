@@ -1,4 +1,4 @@
--- The trials after one of them: what the machine goes on to, and the rest past its number (specs/trials/Words, specs/trials/Machine). Assumes nothing.
+-- The trials after one of them: what the machine goes on to, and the rest past its number (specs/trials/Words, specs/trials/Machine).
 use Rattle.std.proofs.Common.{◌≡◌, ℕ, zero, suc, ◌≤◌, Bool, true, false, ◌⊎◌, List, [], ◌∷◌, map, reverse, length, drop, sym, refl, ap, ◌∙◌, subst, inl, inr, arith}
 use mathlib.Core.List.Memᴰ
 use mathlib.Core.List.{Memᴰ}

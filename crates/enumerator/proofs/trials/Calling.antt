@@ -1,4 +1,4 @@
--- One call of a list of calls (specs/trials/Calls), over a listing that opening gave and words that fit it: the graph and the scratch are lent whole or only a beginning of them. Assumes nothing.
+-- One call of a list of calls (specs/trials/Calls), over a listing that opening gave and words that fit it: the graph and the scratch are lent whole or only a beginning of them.
 use Rattle.std.proofs.Common.{◌≡◌, ℕ, zero, suc, ◌-◌, ◌≤◌, Bool, true, false, not, ◌&&◌, eqb, leb, List, ◌∷◌, length, take, drop, refl, ap, ◌∙◌, arith, length-take, leb-true}
 use mathlib.Core.Bool.{and-false}
 use Rattle.lr1_base.specs.repr.Reply.{answered, refused}

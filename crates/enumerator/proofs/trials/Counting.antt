@@ -1,4 +1,4 @@
--- How often each nonterminal stands on a walk, kept in a list (specs/trials/Counts): one more, one fewer, whether it is there. Assumes nothing.
+-- How often each nonterminal stands on a walk, kept in a list (specs/trials/Counts): one more, one fewer, whether it is there.
 use Rattle.std.proofs.Common.{◌≡◌, ℕ, suc, ◌+◌, ◌-◌, ◌<◌, ◌≤◌, true, false, eqb, List, [], ◌∷◌, length, get_or, set, replicate, sym, refl, ap, ◌∙◌, arith, length-set, get_or-set_other, get_or-set_same, eq-eqb, ne_eqb, eqb-true}
 use lib.ListN.{length-replicate, get_or-replicate}
 use borrow.Author.Tests.{eqb-false}

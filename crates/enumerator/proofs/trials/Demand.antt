@@ -1,4 +1,4 @@
--- Demand 3 of document 01, whole (`Demand` of specs/trials/Demand): over any list of calls, refused ones included, between one example and the next no path is passed over. Assumes nothing.
+-- Whole lists of calls (docs/RULES.md, "Listing"; `Demand` of specs/trials/Demand): over any list of calls, refused ones included, between one example and the next no path is passed over.
 use Rattle.std.proofs.Common.{◌≡◌, ℕ, ◌-◌, Bool, true, false, List, [], ◌∷◌, ◌++◌, map, length, drop, refl, ap, ◌∙◌}
 use Rattle.lr1_base.specs.repr.Reply.{Reply, answered}
 use Rattle.lr1_base.specs.repr.Sizes.{trial_limit}
@@ -69,7 +69,7 @@ module _ (t : List ℕ) (i : Item) (ahead : Lookahead) (g : List ℕ) (R : Ready
       let x = plain-moves (hands_in t ahead g) (says_in t g) (trials_in i g) e o c in
       rw (M.outcomes, ← x.0, ← x.1) (behind ks s.count s.is_open (M.scratch ++ drop k.scratch ws) M.fit M.long)
 
--- THE demand: from the listing that opening gives, over any scratch and any list of calls
+-- the whole list: from the listing that opening gives, over any scratch and any list of calls
 pub demand : (t : List ℕ) (i : Item) (ahead : Lookahead) (g : List ℕ) (l : Listing) → open_of t i ahead g ≡ answered l → (scratch : List ℕ) (cs : List Lent) → Demand t i ahead g l scratch cs
 unfolding Fit plain_lister run
 demand t i ahead g l e scratch cs =

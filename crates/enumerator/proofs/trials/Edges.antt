@@ -1,9 +1,9 @@
--- The edges that a lent graph's words hold (specs/trials/Words and specs/Fits of trace_graph): all of them lie in the first 8,193 words. Assumes nothing.
-use Rattle.std.proofs.Common.{◌≡◌, ℕ, zero, suc, ◌+◌, ◌<◌, ◌≤◌, true, eqb, ltb, leb, List, length, get_or, sym, ap, ◌∙◌, arith, ltb-true, leb-true}
+-- The edges that a lent graph's words hold (specs/trials/Words and specs/Fits of trace_graph): all of them lie in the first 8,193 words.
+use Rattle.std.proofs.Common.{◌≡◌, ℕ, zero, suc, ◌+◌, ◌<◌, ◌≤◌, true, eqb, ltb, leb, List, get_or, sym, ap, ◌∙◌, arith, ltb-true, leb-true}
 use Rattle.lr1_base.specs.repr.Sizes.{edge_limit, edge_place}
 use Rattle.lr1_base.specs.repr.Lists.{below, every?}
 use Rattle.lr1_base.specs.repr.Meaning.{Production}
-use Rattle.lr1_base.proofs.repr.Lists.{length-map-below, get_d_map-below}
+use Rattle.lr1_base.proofs.repr.Lists.{get_d_map-below}
 use Rattle.lr1_base.proofs.repr.Tests.{every?_below}
 use Rattle.trace_graph.specs.Graph.{at_nonterminal, TraceEdge, no_edge}
 use Rattle.trace_graph.specs.Words.{node_of, node_at, edge_at, edges_in}

@@ -1,4 +1,4 @@
--- The trials enumerated are exactly the paths that are trials: the fuel never cuts (part 6 of document 01). Assumes nothing.
+-- The trials enumerated are exactly the paths that are trials: the fuel never cuts (docs/RULES.md, "Listing").
 use Rattle.std.proofs.Common.{◌≡◌, ℕ, zero, suc, ◌<◌, ◌≤◌, Bool, true, false, eqb, ◌⊎◌, List, [], ◌∷◌, ◌++◌, map, sym, refl, ◌∙◌, inl, inr, not-suc-le-zero, arith, eqb-true}
 use mathlib.Core.List.Memᴰ
 use mathlib.Core.List.{Memᴰ}

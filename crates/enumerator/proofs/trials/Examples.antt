@@ -1,4 +1,4 @@
--- What a test keeps of the trials: each once, in order, exactly the trials that pass. Assumes nothing.
+-- What a test keeps of the trials: each once, in order, exactly the trials that pass.
 use Rattle.std.proofs.Common.{◌≡◌, Bool, true, false, ◌⊎◌, ◌↔◌, List, [], ◌∷◌, refl, ap, ◌∙◌, inl, inr}
 use mathlib.Core.List.Memᴰ
 use mathlib.Core.List.{Memᴰ}

@@ -1,4 +1,4 @@
--- What the machine steps to is a trial again, so that its words are such as the next step asks. Assumes nothing.
+-- What the machine steps to is a trial again, so that its words are such as the next step asks.
 use Rattle.std.proofs.Common.{◌≡◌, ℕ, Bool, true, false, List, [], ◌∷◌, map, reverse, refl, ap, ◌∙◌, subst}
 use mathlib.Core.List.{reverse-reverse, Memᴰ}
 use mathlib.Core.Option.{Option, some}

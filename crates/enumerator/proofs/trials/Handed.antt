@@ -1,4 +1,4 @@
--- The second half of demand 3: what the plain lister hands out, in which order, and what its counts are (`Handed` of specs/trials/Told). Assumes nothing.
+-- The second half of what holds of whole lists of calls (docs/RULES.md, "Listing"): what the plain lister hands out, in which order, and what its counts are (`Handed` of specs/trials/Told).
 use Rattle.std.proofs.Common.{◌≡◌, ℕ, ◌+◌, ◌-◌, ◌<◌, ◌≤◌, Bool, true, false, ◌&&◌, eqb, ◌⊎◌, List, [], ◌∷◌, ◌++◌, map, length, take, drop, sym, refl, ap, ◌∙◌, subst, inl, inr, true≢false, append_assoc, append-nil, arith, take-append-drop}
 use mathlib.Core.List.Memᴰ
 use mathlib.Core.List.{append_cancel_right, Memᴰ}

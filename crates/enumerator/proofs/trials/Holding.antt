@@ -1,4 +1,4 @@
--- Words that hold a trial, as the code tests it (src/machine.rt): zeros after the path, and the path edge by edge. Assumes nothing.
+-- Words that hold a trial, as the code tests it (src/machine.rt): zeros after the path, and the path edge by edge.
 use Rattle.std.proofs.Common.{◌≡◌, ℕ, suc, ◌+◌, ◌-◌, ◌<◌, ◌≤◌, Bool, true, false, not, ◌&&◌, eqb, ltb, List, [], ◌∷◌, ◌++◌, reverse, length, get_or, take, drop, replicate, sym, refl, ap, ◌∙◌, arith, length-drop, take-append-drop, drop_of_length-le, length-take, length-take-le, get_or-drop, drop-cons, get_or-take, take-take, ltb-true, le-ltb, lt-ltb, eq-eqb, ne_eqb, eqb-true, zero, subst}
 use mathlib.Core.Bool.{and-true}
 use mathlib.Core.List.{reverse-cons, reverse-reverse}

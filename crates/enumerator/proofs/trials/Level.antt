@@ -1,4 +1,4 @@
--- The two equations of each step of the enumeration (specs/trials/Trials), and how many nonterminals a walk may still enter. Assumes nothing.
+-- The two equations of each step of the enumeration (specs/trials/Trials), and how many nonterminals a walk may still enter.
 use Rattle.std.proofs.Common.{◌≡◌, ℕ, zero, suc, ◌<◌, ◌≤◌, Bool, true, false, eqb, List, [], ◌∷◌, ◌++◌, map, refl, ap, ◌∙◌, arith, eqb-true}
 use borrow.Author.Tests.{eqb-false}
 use Rattle.lr1_base.specs.repr.Lists.{mem}

@@ -1,5 +1,5 @@
--- The two listings of document 01 on table B, as the plain lister's whole output for three calls: the example with its count, the end with 3, the end again;
--- and that table and graphs are such as opening asks for. Assumes nothing.
+-- The two listings of docs/RULES.md, "Table B", as the plain lister's whole output for three calls: the example with its count, the end with 3, the end again;
+-- and that table and graphs are such as opening asks for.
 use Rattle.std.proofs.Common.{◌≡◌, ℕ, true, List, [], ◌∷◌, ◌++◌, map, length, replicate, refl, ap, ◌∙◌, subst, arith}
 use mathlib.Core.List.Memᴰ
 use mathlib.Core.List.{Memᴰ}
@@ -64,7 +64,7 @@ saying ws n = record { answer = example ws; count = n }
 abbrev ending : ℕ → Out
 ending n = record { answer = end; count = n }
 
--- lines a and r of document 01: 5 3 0/0 1/0 0/0 1/0 0/0, then 2-5/0 0-5/0 and 0-3/0 0-5/0
+-- lines a and r of docs/RULES.md, "Table B": 5 3 0/0 1/0 0/0 1/0 0/0, then 2-5/0 0-5/0 and 0-3/0 0-5/0
 pub marked_listings :
     plain_lister (meaning table_b) shift_b (item 0 1) none (whole ∷ whole ∷ whole ∷ [])
     ∷ plain_lister (meaning table_b) reduce_b (item 0 3) (some 1) (whole ∷ whole ∷ whole ∷ [])
@@ -137,7 +137,7 @@ ready_reduce =
     let l : length reduce_words ≡ graph_room = cc marked-lengths in
     record { accepted = marked_check; asks = cc marked_asks; long = omega arith; node = ap (is_node_of (at_item (item 0 3))) e ∙ n }
 
--- demand 3 on table B: three calls that are lent what 11 asks
+-- the whole list on table B: three calls that are lent what 11 asks
 scratch_b : List ℕ
 scratch_b = replicate scratch_words 0
 

@@ -1,4 +1,4 @@
--- The filter's test is what a lookahead asks of a path (`Meets` of specs/trials/Told, part 6 of document 01): a terminal in common, or end where all is nullable. Assumes nothing.
+-- The filter's test is what a lookahead asks of a path (`Meets` of specs/trials/Told; docs/RULES.md, "Listing"): a terminal in common, or end where all is nullable.
 use Rattle.std.proofs.Common.{◌≡◌, ℕ, suc, ◌%◌, Bool, true, not, ◌&&◌, ◌||◌, eqb, ◌↔◌, List, sym, refl, ap, ◌∙◌, inl, inr, ⊎_elim, arith, eqb-true}
 use mathlib.Core.Bool.{or-true}
 use mathlib.Core.Option.{Option, none, some}

@@ -1,4 +1,4 @@
--- One call on both sides: what it answers and leaves is what the plain lister says, and the listing that it leaves fits the words that it leaves. Assumes nothing.
+-- One call on both sides: what it answers and leaves is what the plain lister says, and the listing that it leaves fits the words that it leaves.
 use Rattle.std.proofs.Common.{◌≡◌, ℕ, suc, ◌-◌, ◌≤◌, Bool, true, false, List, ◌∷◌, ◌++◌, length, take, drop, refl, ap, ◌∙◌, arith, take-append-drop}
 use mathlib.Core.Option.{Option}
 use Rattle.lr1_base.specs.repr.Reply.{Reply, answered, refused}

@@ -1,4 +1,4 @@
--- When opening gives a listing (specs/trials/Advance), and which. Assumes nothing.
+-- When opening gives a listing (specs/trials/Advance), and which.
 use Rattle.std.proofs.Common.{◌≡◌, ℕ, ◌≤◌, true, leb, List, length, refl, ◌∙◌, arith, le-leb, leb-true}
 use mathlib.Core.Option.{Option}
 use Rattle.lr1_base.specs.repr.Reply.{Reply, answered, refused}

@@ -1,4 +1,4 @@
--- The trials come in strictly increasing order, each once (part 6 of document 01). Assumes nothing.
+-- The trials come in strictly increasing order, each once (docs/RULES.md, "Listing").
 use Rattle.std.proofs.Common.{◌≡◌, ℕ, zero, suc, ◌<◌, Bool, true, false, List, [], ◌∷◌, ◌++◌, map, refl, arith}
 use Rattle.lr1_base.specs.repr.Lists.{mem}
 use Rattle.trace_graph.specs.Graph.{Node, at_nonterminal, at_item, is_same_node}

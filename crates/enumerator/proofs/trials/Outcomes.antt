@@ -1,4 +1,4 @@
--- The ways through a call of `advance` (specs/trials/Advance) that is asked rightly. Assumes nothing.
+-- The ways through a call of `advance` (specs/trials/Advance) that is asked rightly.
 use Rattle.std.proofs.Common.{◌≡◌, ℕ, ◌-◌, Bool, true, false, List, length, sym, refl, true≢false}
 use Rattle.lr1_base.specs.repr.Reply.{answered, refused}
 use Rattle.lr1_base.specs.repr.Sizes.{trial_limit}

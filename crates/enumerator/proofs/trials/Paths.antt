@@ -1,4 +1,4 @@
--- Of all paths of a list (specs/trials/Trials). Assumes nothing.
+-- Of all paths of a list (specs/trials/Trials).
 use Rattle.std.proofs.Common.{◌≡◌, ◌⊎◌, List, [], ◌∷◌, ◌++◌, map, inl, inr}
 use mathlib.Core.List.Memᴰ
 use mathlib.Core.List.{Memᴰ}

@@ -1,4 +1,4 @@
--- Iterating `next` (specs/trials/Machine) from the empty stack gives the trials in their order. Assumes nothing.
+-- Iterating `next` (specs/trials/Machine) from the empty stack gives the trials in their order.
 use Rattle.std.proofs.Common.{◌≡◌, ℕ, zero, suc, ◌<◌, ◌≤◌, Bool, true, false, List, [], ◌∷◌, ◌++◌, map, reverse, sym, refl, ap, subst, append-nil, not-suc-le-zero, arith}
 use mathlib.Core.List.{reverse_aux}
 use Rattle.lr1_base.specs.repr.Lists.{mem}

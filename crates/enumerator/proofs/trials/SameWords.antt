@@ -1,4 +1,4 @@
--- The test of two lists of words decides equality; a path is in a list exactly if the test finds it. Assumes nothing.
+-- The test of two lists of words decides equality; a path is in a list exactly if the test finds it.
 use Rattle.std.proofs.Common.{◌≡◌, true, ◌⊎◌, List, [], ◌∷◌, sym, ◌∙◌, inl, inr}
 use mathlib.Core.List.Memᴰ
 use mathlib.Core.List.{Memᴰ}

@@ -1,4 +1,4 @@
--- The scratch that a call hands back, in front of the rest of the scratch: its length stays, its front is a trial's words or zeros, and behind the first 32,000 words it is as it was. Assumes nothing.
+-- The scratch that a call hands back, in front of the rest of the scratch: its length stays, its front is a trial's words or zeros, and behind the first 32,000 words it is as it was.
 use Rattle.std.proofs.Common.{◌≡◌, ℕ, ◌+◌, ◌-◌, ◌≤◌, List, ◌++◌, length, take, drop, replicate, sym, ap, ◌∙◌, append_assoc, arith, length-append, length-drop, take-append-drop, length-take, drop_at}
 use lib.ListN.{length-replicate}
 use lib.Seq.{take-append-add, drop-append-le}

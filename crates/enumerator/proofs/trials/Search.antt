@@ -1,4 +1,4 @@
--- What a search over the trials past a count finds (specs/trials/Lister). Assumes nothing.
+-- What a search over the trials past a count finds (specs/trials/Lister).
 use Rattle.std.proofs.Common.{◌≡◌, ℕ, zero, suc, ◌+◌, ◌<◌, ◌≤◌, Bool, true, false, List, [], ◌∷◌, length, drop, sym, refl, ap, ◌∙◌, not-suc-le-zero, arith}
 use Rattle.lr1_base.specs.repr.Lists.{keep}
 use Rattle.lr1_base.proofs.repr.Lists.{keep-nil, keep-yes, keep_no}

@@ -1,4 +1,4 @@
--- A trial has at most 33 edges: 32 nonterminals and one edge more (behind 528 symbols and 33 reductions). Assumes nothing.
+-- A trial has at most 33 edges: 32 nonterminals and one edge more (behind 528 symbols and 33 reductions).
 use Rattle.std.proofs.Common.{◌≡◌, ℕ, zero, suc, ◌≤◌, Bool, true, false, List, [], ◌∷◌, map, length, refl, arith}
 use mathlib.Core.List.{Memᴰ}
 use Rattle.lr1_base.specs.repr.Sizes.{reduction_limit}

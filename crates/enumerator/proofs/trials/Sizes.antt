@@ -1,4 +1,4 @@
--- An example's words fit the buffer that refusal 11 asks for (1,158 words), so that an example changes no buffer's length. Assumes nothing.
+-- An example's words fit the buffer that refusal 11 asks for (1,158 words), so that an example changes no buffer's length.
 use Rattle.std.proofs.Common.{◌≡◌, ℕ, ◌≤◌, List, length, arith}
 use mathlib.Core.List.{Memᴰ}
 use Rattle.lr1_base.specs.repr.Sizes.{example_room}

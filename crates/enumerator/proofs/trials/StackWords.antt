@@ -1,4 +1,4 @@
--- Words that hold a stack (specs/trials/Stacks): its top; the words of one stack are those of no other. Assumes nothing.
+-- Words that hold a stack (specs/trials/Stacks): its top; the words of one stack are those of no other.
 use Rattle.std.proofs.Common.{◌≡◌, ℕ, suc, ◌-◌, ◌<◌, ◌≤◌, List, [], ◌∷◌, ◌++◌, reverse, length, get_or, take, drop, replicate, sym, refl, ap, ◌∙◌, append_assoc, arith, length-append, take-suc}
 use mathlib.Core.List.{reverse-cons, reverse-reverse, reverse-append}
 use lib.ListN.{length-reverse}

@@ -1,4 +1,4 @@
--- The ways through the code that tests a trial (src/machine.rt), over its words. Assumes nothing.
+-- The ways through the code that tests a trial (src/machine.rt), over its words.
 use Rattle.std.proofs.Common.{◌≡◌, ℕ, zero, suc, ◌+◌, ◌<◌, Bool, true, false, not, ◌||◌, eqb, List, [], ◌∷◌, ◌++◌, reverse, get_or, take, drop, sym, refl, ap, ◌∙◌, arith, ne_eqb}
 use mathlib.Core.List.{reverse-cons}
 use borrow.Author.Tests.{eqb-false}

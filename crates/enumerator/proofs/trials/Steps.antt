@@ -1,4 +1,4 @@
--- The ways through each step of the machine (specs/trials/Machine). Assumes nothing.
+-- The ways through each step of the machine (specs/trials/Machine).
 use Rattle.std.proofs.Common.{◌≡◌, ℕ, zero, suc, ◌<◌, Bool, true, false, List, [], ◌∷◌, sym, refl, ◌∙◌, arith}
 use mathlib.Core.Option.{Option, none, some}
 use Rattle.lr1_base.specs.repr.Lists.{mem}

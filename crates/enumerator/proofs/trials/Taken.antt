@@ -1,4 +1,4 @@
--- A graph of which only a beginning is lent: with 8,193 words or more it is the same graph and fits as the whole does. Assumes nothing.
+-- A graph of which only a beginning is lent: with 8,193 words or more it is the same graph and fits as the whole does.
 use Rattle.std.proofs.Common.{◌≡◌, ℕ, ◌+◌, ◌<◌, ◌≤◌, true, false, ◌&&◌, leb, List, map, length, get_or, take, sym, ◌∙◌, arith, length-take, get_or-take, ext_get_or, le-leb, leb-true}
 use mathlib.Core.Option.{Option}
 use Rattle.lr1_base.specs.repr.Sizes.{edge_limit, edge_place, graph_room}

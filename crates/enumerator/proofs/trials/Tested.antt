@@ -1,4 +1,4 @@
--- The test that a path is a trial, edge by edge, is the test that it is among the trials. Assumes nothing.
+-- The test that a path is a trial, edge by edge, is the test that it is among the trials.
 use Rattle.std.proofs.Common.{◌≡◌, ℕ, ◌<◌, true, not, ◌&&◌, ltb, List, [], ◌∷◌, take, sym, refl, true≢false, ltb-true, lt-ltb}
 use borrow.Author.Tests.{not-true}
 use Rattle.lr1_base.specs.repr.Sizes.{scratch_words}

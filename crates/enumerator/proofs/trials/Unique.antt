@@ -1,4 +1,4 @@
--- Document 01's order of edge sequences is strict and total, so that the trials are the only list of all trials in that order (part 6). Assumes nothing.
+-- The order of trials (docs/RULES.md, "Listing") is strict and total, so that the trials are the only list of all trials in that order.
 use Rattle.std.proofs.Common.{◌≡◌, ◌<◌, ◌⊎◌, List, [], ◌∷◌, sym, refl, ◌∙◌, inl, inr, arith}
 use native.Mathlib.Decide.{dec_lt}
 use mathlib.Core.List.Memᴰ

@@ -1,4 +1,4 @@
--- The machine's search is the search over the list of trials (specs/trials/Machine, specs/trials/Advance): the second level meets the first. Assumes nothing.
+-- The machine's search is the search over the list of trials (specs/trials/Machine, specs/trials/Advance): the second level meets the first.
 use Rattle.std.proofs.Common.{◌≡◌, ℕ, zero, suc, Bool, true, false, List, [], ◌∷◌, map, reverse, sym, refl, ap, ◌∙◌}
 use mathlib.Core.List.{reverse-reverse}
 use mathlib.Core.Option.{Option, none, some}

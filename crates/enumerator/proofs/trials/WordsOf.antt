@@ -1,4 +1,4 @@
--- The words of a trial (specs/trials/Words): 32,000, and different for different trials; what words that hold a trial are. Assumes nothing.
+-- The words of a trial (specs/trials/Words): 32,000, and different for different trials; what words that hold a trial are.
 use Rattle.std.proofs.Common.{◌≡◌, ℕ, ◌-◌, ◌≤◌, true, ◌↔◌, List, [], ◌++◌, length, take, drop, replicate, sym, refl, ap, ◌∙◌, append_assoc, append-nil, arith, length-append, take-append-drop, take_at}
 use mathlib.Core.List.{Memᴰ}
 use lib.ListN.{length-replicate}

@@ -1,4 +1,4 @@
--- What the parts of a call are given of a table: its productions and numbers as read. Assumes nothing: these are definitions.
+-- What the parts of a call are given of a table: its productions and numbers as read.
 use Rattle.std.specs.Prelude.{ℕ, zero, suc, ◌^◌, ◌≡◌, Bool, true, false, List, [], ◌++◌, length, drop, replicate, ltb}
 use Rattle.std.proofs.Math.Option.{Option, none, some}
 use Rattle.lr1_base.specs.repr.Sizes.{scratch_words}

@@ -1,5 +1,4 @@
--- An example, part 7 of document 01, as `example` and `first0` of lr1/trace/trace_graph build them: on a list of labels, innermost first.
--- Assumes nothing: these are definitions.
+-- An example (docs/RULES.md, "An example in words"), as `example` and `first0` of lr1/trace/trace_graph build them: on a list of labels, innermost first.
 use Rattle.std.specs.Prelude.{ℕ, suc, ◌+◌, ◌-◌, Bool, true, false, List, [], ◌∷◌, ◌++◌, map, reverse, length, slice_index_or}
 use Rattle.std.proofs.Math.Option.{Option, none, some}
 use Rattle.lr1_base.specs.repr.Lists.{joined}

@@ -1,4 +1,4 @@
--- Labels in words, as the code hands them on: nonterminal, production, index each, innermost first. Assumes nothing: these are definitions.
+-- Labels in words, as the code hands them on: nonterminal, production, index each, innermost first.
 use Rattle.std.specs.Prelude.{◌≡◌, ℕ, ◌*◌, ◌<◌, ◌≤◌, List, [], ◌∷◌, length, slice_index_or}
 use Rattle.lr1_base.specs.repr.Sizes.{label_room, labels_room}
 use Rattle.lr1_base.specs.repr.Meaning.{Production, no_production, All}

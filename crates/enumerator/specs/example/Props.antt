@@ -1,4 +1,4 @@
--- No two proofs that labels are in range differ, so that a struct may hold one. Assumes nothing.
+-- No two proofs that labels are in range differ, so that a struct may hold one.
 use Rattle.std.specs.Prelude.{ℕ, List, [], ◌∷◌}
 use Rattle.std.proofs.Props.{props}
 use Rattle.lr1_base.specs.repr.Meaning.{Production, All}

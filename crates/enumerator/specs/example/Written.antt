@@ -1,4 +1,4 @@
--- How the code writes an example: lists of symbols as parts of the packed words, and the reductions innermost first, each from the labels around it. Assumes nothing: these are definitions.
+-- How the code writes an example: lists of symbols as parts of the packed words, and the reductions innermost first, each from the labels around it.
 use Rattle.std.specs.Prelude.{◌≡◌, ℕ, ◌-◌, true, List, [], ◌∷◌, map, length, slice_index_or}
 use Rattle.lr1_base.specs.repr.Sizes.{nonterminal_limit, terminal_limit}
 use Rattle.lr1_base.specs.repr.Lists.{joined}

@@ -1,5 +1,4 @@
--- The filter of a listing (part 6 of document 01) over its parts: e is the end of input, sets the FIRST sets, ps the productions. `hands_by_lem` of proofs/filter/Passing: over those of a table it is that of the plain lister.
--- Assumes nothing: these are definitions.
+-- The filter of a listing (docs/RULES.md, "Listing") over its parts: e is the end of input, sets the FIRST sets, ps the productions. `hands_by_lem` of proofs/filter/Passing: over those of a table it is that of the plain lister.
 use Rattle.std.specs.Prelude.{ℕ, Bool, true, ◌&&◌, List}
 use Rattle.std.proofs.Math.Option.{Option, none, some}
 use Rattle.lr1_base.specs.repr.Meaning.{Production}

@@ -1,4 +1,4 @@
--- What a search answers, and the words that it leaves: those of the trial handed out, or of none. Assumes nothing: these are definitions.
+-- What a search answers, and the words that it leaves: those of the trial handed out, or of none.
 use Rattle.std.specs.Prelude.{ℕ, List, [], ◌∷◌, ◌++◌}
 use Rattle.enumerator.specs.trials.Trials.{Path}
 use Rattle.enumerator.specs.trials.Lister.{Found, hit, out, over}

@@ -1,4 +1,4 @@
--- What the search and the reading of labels are given: a graph in range with its view, and words that hold a trial of it. Assumes nothing: these are definitions.
+-- What the search and the reading of labels are given: a graph in range with its view, and words that hold a trial of it.
 use Rattle.std.specs.Prelude.{◌≡◌, ℕ, ◌≤◌, List, [], ◌∷◌, ◌++◌, length}
 use mathlib.Core.List.{Memᴰ}
 use Rattle.lr1_base.specs.repr.Sizes.{reduction_limit}

@@ -1,4 +1,4 @@
--- The lists of a view of no edge. Owners are put before they are read, so of them the length alone is said, which the type gives: another crate does not learn it from there. Assumes nothing: these are definitions.
+-- The lists of a view of no edge. Owners are put before they are read, so of them the length alone is said, which the type gives: another crate does not learn it from there.
 use Rattle.std.specs.Prelude.{◌≡◌, length, replicate}
 use Rattle.lr1_base.specs.repr.Sizes.{edge_limit}
 use Rattle.enumerator.specs.graph_view.View.{latest_room}

@@ -1,5 +1,4 @@
 -- The machine's steps (specs/trials/Machine) by the words of a view, as the code makes them. `next_view` of proofs/graph_view/Viewing: over the view of a graph they are the machine's.
--- Assumes nothing: these are definitions.
 use Rattle.std.specs.Prelude.{ℕ, zero, suc, ◌≡◌, Bool, true, false, List, [], ◌∷◌, ◌++◌, reverse, get_or, eqb}
 use Rattle.std.proofs.Math.Option.{Option, none, some}
 use Rattle.lr1_base.specs.repr.Sizes.{nonterminal_limit}

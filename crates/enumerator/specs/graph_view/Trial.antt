@@ -1,5 +1,5 @@
 -- The 34 words of a trial: the number of its edges, the edges from the start item on, zeros (no trial has more than 33, `short_trial` of enumerator). `words_trial` of proofs/graph_view/Trial: with zeros behind them
--- they are the 32,000 words that a public listing leaves (specs/trials/Words). Assumes nothing: these are definitions.
+-- they are the 32,000 words that a public listing leaves (specs/trials/Words).
 use Rattle.std.specs.Prelude.{ℕ, ◌+◌, ◌-◌, ◌≤◌, ◌≡◌, true, false, List, [], ◌∷◌, ◌++◌, reverse, length, replicate}
 use Rattle.std.proofs.Math.Option.{Option, none, some}
 use Rattle.lr1_base.specs.repr.Sizes.{edge_limit, reduction_limit}

@@ -1,5 +1,5 @@
--- A view of a trace graph: what a listing from one item asks of it (request 06), in five small lists. By edge: the nonterminal that it comes from, the next older edge into the same node, and its
--- label in two (`Labelled`). By node: the latest edge into it. An edge that is linked is one more than its number, and 0 is none, as in the index of a whole graph (specs/Index of trace_graph). Assumes nothing: these are definitions.
+-- A view of a trace graph: what a listing from one item asks of it, in five small lists. By edge: the nonterminal that it comes from, the next older edge into the same node, and its
+-- label in two (`Labelled`). By node: the latest edge into it. An edge that is linked is one more than its number, and 0 is none, as in the index of a whole graph (specs/Index of trace_graph).
 use Rattle.std.specs.Prelude.{ℕ, suc, ◌+◌, ◌/◌, ◌%◌, ◌≤◌, ◌<◌, ◌≡◌, true, false, List, length, get_or, eqb}
 use Rattle.lr1_base.specs.repr.Sizes.{nonterminal_limit, index_limit, item_limit, edge_limit}
 use Rattle.lr1_base.specs.repr.Meaning.{Item, Production}

@@ -1,4 +1,4 @@
--- What opening and `advance` answer and leave, part 6 of document 01. Assumes nothing: these are definitions.
+-- What opening and `advance` answer and leave (docs/RULES.md, "Listing").
 use Rattle.std.specs.Prelude.{ℕ, zero, suc, ◌-◌, ◌^◌, Bool, true, false, not, ◌&&◌, List, length, ◌==◌, nat_le, nat_lt}
 use Rattle.std.proofs.Math.Option.{Option, none, some}
 use Rattle.lr1_base.specs.repr.Reply.{Reply, answered, refused}

@@ -1,5 +1,4 @@
--- What a list of calls leaves behind: the listing, and the scratch word for word (part 6 of document 01 and what stands under its table of refusals).
--- Assumes nothing: these are definitions.
+-- What a list of calls leaves behind: the listing, and the scratch word for word (docs/RULES.md, "Listing").
 use Rattle.std.specs.Prelude.{◌≡◌, ℕ, zero, suc, Bool, true, false, List, ◌∷◌, length, drop}
 use Rattle.lr1_base.specs.repr.Sizes.{scratch_words}
 use Rattle.lr1_base.specs.words.Lent.{in_front, zeroed}

@@ -1,4 +1,4 @@
--- A list of calls over one table, graph, listing and scratch: each call is lent the graph and the scratch whole or only a beginning of them, and a buffer of its own. Assumes nothing: these are definitions.
+-- A list of calls over one table, graph, listing and scratch: each call is lent the graph and the scratch whole or only a beginning of them, and a buffer of its own.
 use Rattle.std.specs.Prelude.{ℕ, min, List, [], ◌∷◌, ◌++◌, length, take, drop}
 use Rattle.lr1_base.specs.repr.Reply.{Reply, answered, refused as declined}
 use Rattle.lr1_base.specs.words.Lent.{in_front}

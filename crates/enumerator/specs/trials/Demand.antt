@@ -1,5 +1,4 @@
--- Demand 3 of document 01 (part 6), whole, as one record: of the listing l that opening gave, over any scratch and any list of calls, refused ones included.
--- Assumes nothing: these are definitions.
+-- What holds of whole lists of calls (docs/RULES.md, "Listing"), as one record: of the listing l that opening gave, over any scratch and any list of calls, refused ones included.
 use Rattle.std.specs.Prelude.{◌≡◌, ℕ, true, List, map}
 use Rattle.lr1_base.specs.repr.Meaning.{Item}
 use Rattle.table.specs.Decoded.{meaning}

@@ -1,4 +1,4 @@
--- The plain lister, part 6 of document 01: fed only table, edges, start item, any lookahead and each call's lengths. Assumes nothing: these are definitions.
+-- The plain lister (docs/RULES.md, "Listing"): fed only table, edges, start item, any lookahead and each call's lengths.
 use Rattle.std.specs.Prelude.{ℕ, zero, suc, ◌-◌, Bool, true, false, ◌&&◌, List, [], ◌∷◌, map, drop, nat_le, slice_index_or}
 use Rattle.std.proofs.Math.Option.{Option, none, some}
 use Rattle.lr1_base.specs.repr.Sizes.{graph_room, scratch_words, trial_limit, example_room}

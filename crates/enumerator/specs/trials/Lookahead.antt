@@ -1,4 +1,4 @@
--- Any lookahead that a listing filters by: none, or a set of tokens. Assumes nothing: these are definitions.
+-- Any lookahead that a listing filters by: none, or a set of tokens.
 use Rattle.std.specs.Prelude.{Option}
 use Rattle.lr1_base.specs.declared.lookahead.TokenSet.{TokenSet}
 

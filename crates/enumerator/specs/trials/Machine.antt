@@ -1,4 +1,4 @@
--- The machine that steps from trial to trial, the second level under specs/trials/Trials: a stack is a path, its last edge first. Assumes nothing: these are definitions.
+-- The machine that steps from trial to trial, the second level under specs/trials/Trials: a stack is a path, its last edge first.
 use Rattle.std.specs.Prelude.{◌≡◌, ℕ, zero, suc, Bool, true, false, not, ◌&&◌, List, [], ◌∷◌, reverse, nat_lt}
 use Rattle.std.proofs.Math.Option.{Option, none, some}
 use Rattle.lr1_base.specs.repr.Lists.{mem}

@@ -1,4 +1,4 @@
--- The listing that opening gives, and what opening asks (part 6 of document 01). Assumes nothing: these are definitions.
+-- The listing that opening gives, and what opening asks (docs/RULES.md, "Listing").
 use Rattle.std.specs.Prelude.{◌≡◌, ℕ, ◌≤◌, Bool, true, List, length}
 use Rattle.lr1_base.specs.repr.Sizes.{graph_room}
 use Rattle.lr1_base.specs.repr.Meaning.{Item}
@@ -11,7 +11,7 @@ use Rattle.enumerator.specs.trials.Advance.{set_of, asked}
 use Rattle.enumerator.specs.trials.Lookahead.{Lookahead}
 use Rattle.enumerator.specs.declared.trials.Listing.{Listing}
 
--- "A listing holds its start item, any lookahead, its count and whether it is open"
+-- a listing holds its start item, any lookahead, its count and whether it is open
 abbrev pub listing : Item → Lookahead → ℕ → Bool → Listing
 listing i ahead c o = record { production = record { 0 = i.production }; index = i.index; lookahead = ahead; count = c; is_open = o }
 

@@ -1,5 +1,4 @@
 -- What the code of the machine (specs/trials/Machine) is given and leaves: a graph in range, and words that hold a stack, a path with its last edge first (specs/trials/Words).
--- Assumes nothing: these are definitions.
 use Rattle.std.specs.Prelude.{◌≡◌, ℕ, ◌<◌, ◌≤◌, Bool, true, List, [], ◌∷◌, ◌++◌, reverse, length, take, drop, slice_index, slice_index_or}
 use Rattle.lr1_base.specs.repr.Sizes.{nonterminal_limit, edge_limit, graph_room, reduction_limit}
 use Rattle.lr1_base.specs.repr.Meaning.{Production}

@@ -1,4 +1,4 @@
--- The second half of demand 3, part 6 of document 01: what the plain lister's answers to a list of calls tell of the paths. Assumes nothing: these are definitions.
+-- The second half of what holds of whole lists of calls (docs/RULES.md, "Listing"): what the plain lister's answers to a list of calls tell of the paths.
 use Rattle.std.specs.Prelude.{◌≡◌, ℕ, suc, ◌<◌, ◌≤◌, Bool, true, false, ◌⊎◌, ◌↔◌, List, [], ◌∷◌, ◌++◌, map, length, take, drop, ◌==◌}
 use mathlib.Core.List.{Memᴰ}
 use Rattle.std.proofs.Math.Option.{Option, none, some}
@@ -67,7 +67,7 @@ abbrev pub open_after : Bool → List Out → Bool
 open_after o [] = o
 open_after o (x ∷ xs) = open_after (open_at x.answer o) xs
 
--- "after the end or 13, it ends again with its count", or is lent too little
+-- after the end or 13 it ends again with its count, or is lent too little
 abbrev pub EndsAgain : Answer → Type 0
 EndsAgain (example p) = ⊥
 EndsAgain end = Unit {0}
@@ -103,9 +103,9 @@ pub record IsHanded (T : Table) (es : List TraceEdge) (start : Item) (a : Option
 
 -- of the plain lister's answers to calls cs, with the paths in the place of their words
 pub record Handed (T : Table) (es : List TraceEdge) (start : Item) (a : Option ℕ) (cs : List Call) : Type 0 where
-  -- an example is part 7's words of its path
+  -- an example is the words of its path (docs/RULES.md, "An example in words")
   pub words : plain_lister T es start a cs ≡ map (spoken (says T es)) (path_lister T es start a cs)
-  -- the trials are document 01's, in its order, and no other list is
+  -- the trials are all, in the order of trials, and no other list is
   pub trials_are : Enumerates (ends_of es) (at_item start) (trials (ends_of es) (at_item start))
   pub trials-only : (ps : List Path) → Enumerates (ends_of es) (at_item start) ps → ps ≡ trials (ends_of es) (at_item start)
   -- each count is its trial's number, at the end that of all trials, at 13 it is 100,000

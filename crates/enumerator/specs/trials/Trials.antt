@@ -1,5 +1,4 @@
--- The trials of a listing, part 6 of document 01 (`PathEnumerator`): the paths, their order, their enumeration. An edge is named by its number, its place in the order added.
--- Assumes nothing: these are definitions.
+-- The trials of a listing (docs/RULES.md, "Listing"; `PathEnumerator`): the paths, their order, their enumeration. An edge is named by its number, its place in the order added.
 use Rattle.std.specs.Prelude.{◌≡◌, ℕ, zero, suc, ◌+◌, ◌<◌, Bool, true, false, ◌↔◌, List, [], ◌∷◌, ◌++◌, map, length, ◌≢◌, slice_index_or}
 use mathlib.Core.List.{Memᴰ}
 use Rattle.lr1_base.specs.repr.Sizes.{nonterminal_limit}
@@ -58,7 +57,7 @@ module _ (G : Ends) where
   trials_from zero used v = []
   trials_from (suc f) used v = level (λ e. within used (λ u w. trials_from f u w) (G.source e)) v G.count
 
-  -- all trials, in document 01's order
+  -- all trials, in the order of trials
   unfoldable pub trials : Node → List Path
   trials start = trials_from walk_fuel [] start
 
@@ -89,7 +88,7 @@ Distinct (p ∷ ps) = AllPaths (λ q. p ≢ q) ps × Distinct ps
 abbrev pub Small : Ends → Type 0
 Small G = (e n : ℕ) → e < G.count → G.source e ≡ at_nonterminal n → n < 32
 
--- a list of all trials and of nothing else, in document 01's order: there is one only (`trials-only` of proofs/trials/Unique)
+-- a list of all trials and of nothing else, in the order of trials: there is one only (`trials-only` of proofs/trials/Unique)
 pub record Enumerates (G : Ends) (start : Node) (ps : List Path) : Type 0 where
   pub order : Increasing ps
   pub members : (p : Path) → Memᴰ p ps ↔ IsTrial G start p

@@ -1,4 +1,4 @@
--- The words of a trial: all 32,000 words of the scratch after an example (document 01: they follow from the trial that gave it). Assumes nothing: these are definitions.
+-- The words of a trial: all 32,000 words of the scratch after an example (docs/RULES.md, "Listing": they follow from the trial that gave it).
 use Rattle.std.specs.Prelude.{ℕ, ◌-◌, Bool, true, false, ◌&&◌, List, [], ◌∷◌, ◌++◌, length, take, drop, replicate, slice_index}
 use Rattle.lr1_base.specs.repr.Sizes.{scratch_words}
 use Rattle.lr1_base.specs.words.Same.{same_words}

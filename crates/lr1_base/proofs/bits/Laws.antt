@@ -1,4 +1,4 @@
--- Laws of the flags of specs/bits/Bits. Assumes nothing.
+-- Laws of the flags of specs/bits/Bits.
 use mathlib.Core.Path.{◌≡◌, refl}
 use mathlib.Core.Bool.{Bool, true, false, ◌||◌, or-false}
 use mathlib.Core.List.{List}

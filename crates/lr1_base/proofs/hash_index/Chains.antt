@@ -1,4 +1,4 @@
--- Laws of the chains (specs/hash_index/Chains): the elements that pass a test, the links along them, and an element put in front. Assumes nothing.
+-- Laws of the chains (specs/hash_index/Chains): the elements that pass a test, the links along them, and an element put in front.
 use Rattle.std.proofs.Common.{◌≡◌, ℕ, zero, suc, ◌+◌, ◌<◌, ◌≤◌, Bool, true, false, List, [], ◌∷◌, length, get_or, set, sym, refl, ap, ◌∙◌, arith, length-set, get_or-set_other, get_or-set_same}
 use Rattle.lr1_base.proofs.repr.Lists.{cases}
 use Rattle.lr1_base.specs.hash_index.Chains.{newest, Linked, chained}

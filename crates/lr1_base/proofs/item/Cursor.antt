@@ -1,4 +1,4 @@
--- Laws of the symbol at the cursor as one number (specs/item/Cursor). Assumes nothing.
+-- Laws of the symbol at the cursor as one number (specs/item/Cursor).
 use Rattle.std.specs.Prelude.{◌≡◌, ℕ, zero, suc, ◌+◌, ◌<◌, ◌≤◌, true, false, eqb, ltb, List, [], ◌∷◌, length, drop}
 use mathlib.Core.Path.{refl, sym, ap, ◌∙◌}
 use native.Mathlib.Omega.{arith}

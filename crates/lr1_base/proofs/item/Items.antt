@@ -1,4 +1,4 @@
--- Laws of an item's symbol sets (specs/item/Items), over a production's words. Assumes nothing.
+-- Laws of an item's symbol sets (specs/item/Items), over a production's words.
 use Rattle.std.specs.Prelude.{◌≡◌, ℕ, zero, suc, ◌+◌, ◌-◌, ◌*◌, ◌<◌, ◌≤◌, false, eqb, List, [], ◌∷◌, length, get_or, take, drop, min}
 use mathlib.Core.Path.{refl, sym}
 use mathlib.Core.Option.{some}

@@ -1,4 +1,4 @@
--- Laws of tests joined by `&&` and `||`. Assumes nothing.
+-- Laws of tests joined by `&&` and `||`.
 use Rattle.std.proofs.Common.{◌≡◌, Bool, true, false, ◌&&◌, ◌||◌, sym, refl, true≢false}
 
 pub both : (a b : Bool) → a ≡ true → b ≡ true → a && b ≡ true

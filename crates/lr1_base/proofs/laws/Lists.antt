@@ -1,4 +1,4 @@
--- Laws of lists of numbers, whatever they mean. Assumes nothing.
+-- Laws of lists of numbers, whatever they mean.
 use Rattle.std.proofs.Common.{◌≡◌, ℕ, zero, suc, List, [], ◌∷◌, ◌++◌, length, get_or, replicate, refl, arith, length-append}
 
 pub zero_at : (n k : ℕ) → ◌≡◌ {A = ℕ} (get_or (replicate n 0) k 0) 0

@@ -1,4 +1,4 @@
--- Laws of `words_of` and `encoded`, and of the room that words take. Assumes nothing.
+-- Laws of `words_of` and `encoded`, and of the room that words take.
 use mathlib.Core.Path.{◌≡◌, refl, sym, ap, ◌∙◌}
 use Prim.Native.Nat.{ℕ, suc, ◌+◌, ◌*◌, ◌/◌, ◌%◌, ◌<◌}
 use mathlib.Core.List.{List, [], ◌∷◌, ◌++◌, append_assoc, append-nil}

@@ -1,14 +1,14 @@
 -- Laws of a list of token sets that grows until nothing changes: what lies inside what, which lists are the same, and the sum of the sets as numbers, which a change
--- raises and the size of the sets bounds. Assumes nothing.
+-- raises and the size of the sets bounds.
 use mathlib.Core.Path.{◌≡◌, refl, sym, subst}
 use mathlib.Core.Bool.{true, false, ◌&&◌}
 use mathlib.Core.List.{List, [], ◌∷◌}
 use Prim.Native.Nat.{ℕ, suc, ◌+◌, ◌*◌, ◌^◌, ◌≤◌, ◌<◌}
 use native.Mathlib.Omega.{arith}
-use lib.Dec.{eqb, ltb}
-use lib.ListN.{length, get_or, replicate, length-replicate, get_or-eq_default, get_or-replicate}
+use lib.Dec.{eqb}
+use lib.ListN.{length, get_or, replicate, length-replicate}
 use lib.Seq.{ext_get_or}
-use borrow.Author.Tests.{eqb-true, eqb-false, ltb-true, ltb-false}
+use borrow.Author.Tests.{eqb-true, eqb-false}
 use Rattle.lr1_base.specs.words.Same.{same_words}
 use Rattle.lr1_base.proofs.words.Same.{same_words_eq, eq_same_words}
 use Rattle.lr1_base.proofs.repr.Lists.{cases, clash}

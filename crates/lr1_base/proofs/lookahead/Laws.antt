@@ -1,4 +1,4 @@
--- Laws of the sets of tokens of specs/lookahead/Tokens: what each operation has, and how large it is. Assumes nothing.
+-- Laws of the sets of tokens of specs/lookahead/Tokens: what each operation has, and how large it is.
 use mathlib.Core.Path.{◌≡◌, refl, sym, ap, ◌∙◌}
 use mathlib.Core.Bool.{Bool, true, false, ◌&&◌, ◌||◌, not, and-true, and-false, or-false}
 use Prim.Native.Nat.{ℕ, zero, suc, ◌-◌, ◌*◌, ◌/◌, ◌%◌, ◌^◌, ◌≤◌, ◌<◌, min, max}

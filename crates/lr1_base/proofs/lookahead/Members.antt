@@ -1,5 +1,4 @@
 -- Laws of a set's tokens in order, `members` of specs/lookahead/Tokens: which they are, that they ascend, how many, and the least and the others.
--- Assumes nothing.
 use mathlib.Core.Path.{◌≡◌, sym, ap, ◌∙◌}
 use mathlib.Core.Bool.{Bool, true, false, ◌&&◌, not, and-true, and-false, true≢false}
 use mathlib.Core.List.{List, [], ◌∷◌}

@@ -1,4 +1,4 @@
--- Laws of the sets of tokens of specs/lookahead/Tokens: when two sets are the same, what a union adds, and one set within another. Assumes nothing.
+-- Laws of the sets of tokens of specs/lookahead/Tokens: when two sets are the same, what a union adds, and one set within another.
 use mathlib.Core.Path.{◌≡◌, refl, sym, ap, ◌∙◌}
 use mathlib.Core.Bool.{false, or-true, or_assoc}
 use Prim.Native.Nat.{ℕ, suc, ◌/◌, ◌%◌, ◌≤◌, ◌<◌}

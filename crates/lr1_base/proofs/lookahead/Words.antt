@@ -1,4 +1,4 @@
--- What the code computes on a word is the set that specs/lookahead/Tokens says: one law for each way through a function of src/lib. Assumes nothing.
+-- What the code computes on a word is the set that specs/lookahead/Tokens says: one law for each way through a function of src/lib.
 use mathlib.Core.Path.{◌≡◌, refl, sym, ap, ◌∙◌}
 use mathlib.Core.List.{◌∷◌}
 use mathlib.Core.Bool.{true, false, ◌&&◌, not}

@@ -1,4 +1,4 @@
--- A list of symbols in words gone through two words at a time, as `chunks_exact` does it (specs/repr/Listed). Assumes nothing.
+-- A list of symbols in words gone through two words at a time, as `chunks_exact` does it (specs/repr/Listed).
 use Rattle.std.proofs.Common.{◌≡◌, refl, sym, ap, subst, ◌∙◌, ℕ, ◌+◌, ◌%◌, ◌<◌, Bool, true, false, ◌&&◌, List, [], ◌∷◌, ◌++◌, length, get_or, MatchOption, Option, None, Some, length-append, append-nil, arith}
 use Rattle.std.specs.Iterator.{Yields}
 use Rattle.std.specs.Slice.Iter.{chunks_exact_steps}

@@ -1,4 +1,4 @@
--- The first symbol of a list in words, and the list behind it (specs/repr/Listed, specs/repr/Symbols). Assumes nothing.
+-- The first symbol of a list in words, and the list behind it (specs/repr/Listed, specs/repr/Symbols).
 use Rattle.std.proofs.Common.{◌≡◌, refl, ◌∙◌, ℕ, zero, suc, ◌-◌, ◌*◌, ◌≤◌, ◌<◌, true, List, [], ◌∷◌, length, get_or, take, drop, arith}
 use Rattle.std.proofs.Math.Seq.{take-length}
 use Rattle.std.proofs.lemmas.List.{length-drop}

@@ -1,4 +1,4 @@
--- Two lists that begin alike have the same parts and words there. Assumes nothing.
+-- Two lists that begin alike have the same parts and words there.
 use mathlib.Core.Path.{◌≡◌, sym, ap, ◌∙◌}
 use mathlib.Core.List.{List, [], ◌∷◌}
 use Prim.Native.Nat.{ℕ, zero, suc, ◌+◌, ◌≤◌, ◌<◌}

@@ -1,5 +1,5 @@
 -- Laws of two lists of words joined, as lists of symbols (specs/repr/Listed): of whole symbols the first, or with a symbol that begins with its last word and ends with the
--- other's first. Assumes nothing.
+-- other's first.
 use mathlib.Core.Path.{◌≡◌, refl, sym, ap, ◌∙◌}
 use mathlib.Core.Bool.{Bool, true, false, ◌&&◌, and-true, and_assoc}
 use mathlib.Core.List.{List, [], ◌∷◌, ◌++◌, append_assoc}

@@ -1,6 +1,6 @@
--- Laws of lists of symbols in words (specs/repr/Listed): a list from a place on, symbol by symbol. Assumes nothing.
+-- Laws of lists of symbols in words (specs/repr/Listed): a list from a place on, symbol by symbol.
 use mathlib.Core.Path.{◌≡◌, refl, sym, ap, ◌∙◌}
-use mathlib.Core.Bool.{Bool, true, false, ◌&&◌, and-false}
+use mathlib.Core.Bool.{true, false, ◌&&◌, and-false}
 use mathlib.Core.List.{List, [], ◌∷◌}
 use Prim.Native.Nat.{ℕ, zero, suc, ◌+◌, ◌%◌, ◌≤◌, ◌<◌}
 use native.Mathlib.Omega.{arith}

@@ -1,5 +1,5 @@
 -- Laws of the lists of specs/repr/Lists: ranges, membership, the kept, the number of times, lists joined. Those of its tests are in Tests.
--- An element is named by its index, `get_or xs i d` with any default d; for numbers also by `mem`. Assumes nothing.
+-- An element is named by its index, `get_or xs i d` with any default d; for numbers also by `mem`.
 use mathlib.Core.Path.{◌≡◌, refl, sym, ap, ◌∙◌}
 use mathlib.Core.Bool.{Bool, true, false, ◌&&◌, ◌||◌, not, true≢false, and-false}
 use mathlib.Core.List.{List, [], ◌∷◌, ◌++◌, map, append_assoc}

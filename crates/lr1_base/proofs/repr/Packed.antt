@@ -1,4 +1,4 @@
--- Laws of the productions in words (specs/repr/Packed). Assumes nothing.
+-- Laws of the productions in words (specs/repr/Packed).
 use mathlib.Core.Path.{◌≡◌}
 use mathlib.Core.List.{List}
 use Prim.Native.Nat.{ℕ, ◌+◌, ◌-◌, ◌*◌, ◌<◌}

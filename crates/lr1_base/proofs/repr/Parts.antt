@@ -1,4 +1,4 @@
--- Laws of parts of a list of symbols in words (specs/repr/Listed), and of a production's words (specs/repr/Packed). Assumes nothing.
+-- Laws of parts of a list of symbols in words (specs/repr/Listed), and of a production's words (specs/repr/Packed).
 use mathlib.Core.Path.{◌≡◌, refl, sym, ap, ◌∙◌}
 use mathlib.Core.Bool.{true}
 use mathlib.Core.List.{List, [], ◌∷◌}

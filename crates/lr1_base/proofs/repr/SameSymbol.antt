@@ -1,4 +1,4 @@
--- `is_same_symbol` of specs/repr/Meaning decides whether two symbols are equal. Assumes nothing.
+-- `is_same_symbol` of specs/repr/Meaning decides whether two symbols are equal.
 use mathlib.Core.Path.{◌≡◌, refl, sym, ap, ◌∙◌}
 use mathlib.Core.Bool.{true, false, true≢false}
 use borrow.Author.Tests.{eqb-true, eq-eqb}

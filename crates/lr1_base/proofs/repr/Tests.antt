@@ -1,5 +1,5 @@
 -- Laws of the tests of specs/repr/Lists over a list, `some?`, `every?` and `first?`, and of `All` of specs/repr/Meaning.
--- An element is named by its index, `get_or xs i d` with any default d; for numbers also by `mem`. Assumes nothing.
+-- An element is named by its index, `get_or xs i d` with any default d; for numbers also by `mem`.
 use mathlib.Core.Path.{◌≡◌, refl, sym, ap, ◌∙◌, subst}
 use mathlib.Core.Bool.{Bool, true, false, ◌&&◌, ◌||◌}
 use mathlib.Core.List.{List, [], ◌∷◌, ◌++◌, Memᴰ}

@@ -1,4 +1,4 @@
--- A word put into a list at a place: what `insert_at` makes of it. Assumes nothing.
+-- A word put into a list at a place: what `insert_at` makes of it.
 use mathlib.Core.Path.{◌≡◌, refl, ap, ◌∙◌}
 use mathlib.Core.List.{List, ◌∷◌, ◌++◌, append_assoc}
 use Prim.Native.Nat.{ℕ, suc, ◌+◌, ◌-◌, ◌≤◌, ◌<◌}

@@ -1,4 +1,4 @@
--- Laws of the words that a call leaves (specs/words/Lent): how many they are, zeroed twice, zeroed behind a part that was lent on. Assumes nothing.
+-- Laws of the words that a call leaves (specs/words/Lent): how many they are, zeroed twice, zeroed behind a part that was lent on.
 use mathlib.Core.Path.{◌≡◌, sym, ap, ◌∙◌}
 use mathlib.Core.List.{List, ◌++◌}
 use Prim.Native.Nat.{ℕ, ◌+◌, ◌-◌, ◌≤◌}

@@ -1,4 +1,4 @@
--- Laws of words put into a list at a place (`put_at` of specs/words/Insert): a copy, a few stores, one part after the other. Assumes nothing.
+-- Laws of words put into a list at a place (`put_at` of specs/words/Insert): a copy, a few stores, one part after the other.
 use Rattle.std.proofs.Common.{◌≡◌, ℕ, ◌+◌, ◌≤◌, List, [], ◌∷◌, ◌++◌, length, take, drop, set, sym, refl, ap, ◌∙◌, append_assoc, zero-add, add-one, arith, length-append, length-drop, take-append-drop, length-take, length-take-le, drop-drop, take_at, drop_at}
 use native.Mathlib.Numerals.{add-two}
 use lib.Seq.{sets-eq}

@@ -1,4 +1,4 @@
--- The test of two lists of words decides equality. Assumes nothing.
+-- The test of two lists of words decides equality.
 use mathlib.Core.Path.{◌≡◌, refl, sym, ap, ◌∙◌}
 use mathlib.Core.Bool.{Bool, true, false, ◌&&◌, true≢false}
 use mathlib.Core.List.{List, [], ◌∷◌, ◌++◌}

@@ -1,4 +1,4 @@
--- Flags, 64 to a word. Assumes nothing: these are definitions.
+-- Flags, 64 to a word.
 use Rattle.std.specs.Prelude.{ℕ, ◌/◌, ◌%◌, Bool, List, get_or, set}
 use Rattle.lr1_base.specs.lookahead.Tokens.{has, single, union}
 

@@ -1,5 +1,4 @@
 -- An index by buckets over a list that only grows: a word for each bucket, which holds 0 or one more than the number of the latest element in it; then a word for each element, which holds the next older one of its bucket in the same way.
--- Assumes nothing: these are definitions.
 use Rattle.std.specs.Prelude.{◌≡◌, ℕ, zero, suc, ◌+◌, Bool, true, false, List, [], ◌∷◌, slice_index, slice_set}
 
 -- of the first k elements those that pass a test, newest first

@@ -1,4 +1,4 @@
--- The symbol at an item's cursor as one number. Assumes nothing: these are definitions.
+-- The symbol at an item's cursor as one number.
 use Rattle.std.specs.Prelude.{ℕ, ◌+◌, List, [], ◌∷◌, drop}
 use Rattle.lr1_base.specs.repr.Meaning.{Symbol, nonterminal, terminal}
 use Rattle.lr1_base.specs.repr.Listed.{listed}

@@ -1,4 +1,4 @@
--- What an item's place makes of its production's symbols, part 1 of document 01 (lr1/core). Assumes nothing: these are definitions.
+-- What an item's place makes of its production's symbols (docs/RULES.md, "Items"; lr1/core).
 use Rattle.std.specs.Prelude.{ℕ, suc, ◌+◌, ◌*◌, Bool, false, List, [], ◌∷◌, length, take, drop, ◌==◌}
 use Rattle.std.proofs.Math.Option.{Option, none, some}
 use Rattle.lr1_base.specs.repr.Meaning.{Symbol, nonterminal, terminal}

@@ -1,4 +1,4 @@
--- An item as one number: its place among all items, and the item at a place. Assumes nothing: these are definitions.
+-- An item as one number: its place among all items, and the item at a place.
 use Rattle.std.specs.Prelude.{ℕ, ◌+◌, ◌*◌, ◌/◌, ◌%◌}
 use Rattle.lr1_base.specs.repr.Sizes.{index_limit}
 use Rattle.lr1_base.specs.repr.Meaning.{Item}

@@ -1,4 +1,4 @@
--- Bytes as words, and words as bytes. Assumes nothing: these are definitions.
+-- Bytes as words, and words as bytes.
 use Rattle.std.specs.Prelude.{ℕ, ◌+◌, ◌*◌, ◌/◌, ◌%◌, List, [], ◌∷◌}
 
 -- two bytes a word, the low one first

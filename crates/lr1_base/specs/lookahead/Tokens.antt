@@ -1,5 +1,4 @@
--- Sets of tokens: document 01's tokens are the terminals 0 to T - 1 and T, the end of input. A set is a number, token k its bit k.
--- Assumes nothing: these are definitions.
+-- Sets of tokens (docs/RULES.md, "Token sets"). Tokens are the terminals 0 to T - 1 and T, the end of input. A set is a number, token k its bit k.
 use Rattle.std.specs.Prelude.{ℕ, suc, ◌-◌, ◌/◌, ◌%◌, ◌^◌, ◌≡◌, Bool, true, false, List, eqb, ltb}
 use Rattle.std.specs.Int.Bits.{bit_and, bit_or}
 use Rattle.lr1_base.specs.repr.Lists.{below, keep}

@@ -1,4 +1,4 @@
--- Decimal numerals as bytes. Assumes nothing: these are definitions.
+-- Decimal numerals as bytes.
 use Rattle.std.specs.Prelude.{ℕ, zero, suc, ◌+◌, ◌/◌, ◌%◌, Bool, true, false, ◌&&◌, List, [], ◌∷◌, ◌++◌, leb, ltb}
 
 -- decimal, without leading zeros; f bounds the digits, and 20 are enough for 64 bits (`put_number` of crates/output_text/src/conflict_lines.rt)

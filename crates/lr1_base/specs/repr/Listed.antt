@@ -1,5 +1,4 @@
--- A list of symbols in words, kind and number each, as document 01 has it in an example: a caller's list, and what the code hands on.
--- Assumes nothing: these are definitions.
+-- A list of symbols in words, kind and number each (docs/RULES.md, "Symbols in words"): a caller's list, and what the code hands on.
 use Rattle.std.specs.Prelude.{ℕ, zero, suc, Bool, true, false, ◌&&◌, List, [], ◌∷◌, ltb}
 use Rattle.lr1_base.specs.repr.Meaning.{Symbol, nonterminal, terminal}
 

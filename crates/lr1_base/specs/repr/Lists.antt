@@ -1,4 +1,4 @@
--- Lists of numbers that the definitions count with. Assumes nothing: these are definitions.
+-- Lists of numbers that the definitions count with.
 use Rattle.std.specs.Prelude.{ℕ, zero, suc, Bool, true, false, List, [], ◌∷◌, ◌++◌, eqb}
 use Rattle.std.proofs.Math.Option.{Option, none, some}
 

@@ -1,5 +1,5 @@
 -- What a table means: grammar/repr.rs's `Grammar` and `Production`, and the states with their items and edges, as plain lists.
--- Everything above the table speaks of this and not of words. Assumes nothing: these are definitions.
+-- Everything above the table speaks of this and not of words.
 use Rattle.std.specs.Prelude.{ℕ, ◌≤◌, ◌<◌, Bool, false, List, [], ◌∷◌, length, get_or, eqb}
 use Rattle.lr1_base.specs.repr.Sizes.{nonterminal_limit, terminal_limit, state_limit, production_limit, symbol_limit}
 

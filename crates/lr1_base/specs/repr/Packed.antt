@@ -1,5 +1,5 @@
 -- The productions in words, 36 each, as the code keeps them while it works on a table: nonterminal, number of symbols, span start, span end,
--- then room for sixteen symbols, kind and number each. Assumes nothing: these are definitions.
+-- then room for sixteen symbols, kind and number each.
 use Rattle.std.specs.Prelude.{ℕ, ◌+◌, ◌*◌, ◌≤◌, ◌<◌, true, ◌≡◌, List, map, length, get_or, take, drop}
 use Rattle.lr1_base.specs.repr.Sizes.{nonterminal_limit, terminal_limit, production_limit, symbol_limit, production_place, grammar_room}
 use Rattle.lr1_base.specs.repr.Lists.{below}

@@ -1,9 +1,9 @@
--- What an entry answers, as document 01 has it: a value, or the number of a refusal and its place. Assumes nothing: these are definitions.
+-- What an entry answers (docs/RULES.md, "Refusals"): a value, or the number of a refusal and its place.
 use Rattle.std.specs.Prelude.{ℕ, Result, Ok, Err}
 use Rattle.lr1_base.specs.declared.repr.refusals.Refusal.{Refusal}
 use Rattle.lr1_base.specs.declared.repr.refusals.Refusal.TheVariants.{Words, Counts, Chain, Owner, TooLong, Symbol, Target, Spare, OutOfRange, EndShifted, TooShort, TooManyEdges, TooManyTrials, TooManyExamples, NoNode, TooManyStates, NoRoom, NoGrammar, NoText, Misnamed, Unordered}
 
--- document 01's numbers, and document 02's
+-- the numbers of docs/RULES.md, "Refusals"
 abbrev pub number_of : Refusal → ℕ
 number_of Words = 1
 number_of Counts = 2

@@ -1,4 +1,4 @@
--- The sizes of document 01, said once. What one of something takes in words is its room. Assumes nothing: these are definitions.
+-- The sizes of docs/RULES.md, said once. What one of something takes in words is its room.
 use Rattle.std.specs.Prelude.{ℕ, ◌+◌, ◌*◌}
 
 -- records of a table (refusal 1)
@@ -56,7 +56,7 @@ edge_place k = k * edge_room + 1
 abbrev pub graph_room : ℕ
 graph_room = edge_place edge_limit
 
--- scratch for tracing and listing, and for classifying and choosing (refusal 11; the latter by request 06 of document 02)
+-- scratch for tracing and listing, and for classifying and choosing (refusal 11)
 abbrev pub scratch_words : ℕ
 scratch_words = 32000
 

@@ -1,4 +1,4 @@
--- A symbol of the code as the meaning of a table has it. Assumes nothing: these are definitions.
+-- A symbol of the code as the meaning of a table has it.
 use Rattle.std.specs.Prelude.{◌<◌}
 use Rattle.lr1_base.specs.repr.Sizes.{nonterminal_limit, terminal_limit}
 use Rattle.lr1_base.specs.repr.Meaning.{Symbol, nonterminal, terminal}

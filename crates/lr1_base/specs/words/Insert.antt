@@ -1,4 +1,4 @@
--- Words put into a list at a place: one before the word that stands there, or a list over those that stand there. Assumes nothing: these are definitions.
+-- Words put into a list at a place: one before the word that stands there, or a list over those that stand there.
 use Rattle.std.specs.Prelude.{ℕ, ◌+◌, List, ◌∷◌, ◌++◌, length, take, drop}
 
 unfoldable pub inserted_at : ℕ → ℕ → List ℕ → List ℕ

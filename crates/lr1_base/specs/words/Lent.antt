@@ -1,4 +1,4 @@
--- What a call leaves of lent words: new ones at the front, or zeros. Assumes nothing: these are definitions.
+-- What a call leaves of lent words: new ones at the front, or zeros.
 use Rattle.std.specs.Prelude.{ℕ, List, ◌++◌, length, drop, replicate}
 
 -- new words at the front of a list, the others as they were

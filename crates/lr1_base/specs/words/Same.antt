@@ -1,4 +1,4 @@
--- Two lists of words that are equal, word by word. Assumes nothing: these are definitions.
+-- Two lists of words that are equal, word by word.
 use Rattle.std.specs.Prelude.{ℕ, Bool, true, false, ◌&&◌, List, [], ◌∷◌, eqb}
 
 unfoldable pub same_words : List ℕ → List ℕ → Bool

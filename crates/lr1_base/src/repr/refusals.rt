@@ -1,4 +1,4 @@
-// What an entry refuses, by document 01's table of refusals (1 to 15) and document 02 (from 16 on); the numbers stand in specs/repr/Reply.
+// What an entry refuses, by docs/RULES.md, "Refusals" (1 to 15) and docs/RULES.md (from 16 on); the numbers stand in specs/repr/Reply.
 
 ghost use Rattle.std.specs.Prelude.{◌≡◌};
 ghost use Rattle.lr1_base.specs.repr.Reply.{number_of, place_of};

@@ -1,4 +1,4 @@
--- One set for each nonterminal is enough: `closure_by_aheads`. Assumes nothing.
+-- One set for each nonterminal is enough: `closure_by_aheads`.
 use mathlib.Core.Path.{◌≡◌, refl, sym, ap, ◌∙◌, subst}
 use mathlib.Core.Bool.{true}
 use mathlib.Core.List.Memᴰ

@@ -1,4 +1,4 @@
--- The list of conflicts and the pairs written ascend strictly, so nothing is listed twice: `conflicts_ascend`, `written_ascend`. Assumes nothing.
+-- The list of conflicts and the pairs written ascend strictly, so nothing is listed twice: `conflicts_ascend`, `written_ascend`.
 use mathlib.Core.Path.{◌≡◌, refl, sym, ◌∙◌}
 use mathlib.Core.Bool.{Bool, ◌&&◌, not}
 use mathlib.Core.List.Memᴰ

@@ -1,5 +1,5 @@
 -- Every number of the table that is written is in range (`built-fits`), and so is every number of a conflict (`clash_fits`); while no state is refused, the
--- items are few enough for the room that is lent (`few_items`). Assumes nothing.
+-- items are few enough for the room that is lent (`few_items`).
 use mathlib.Core.Path.{◌≡◌, sym, ◌∙◌}
 use mathlib.Core.Bool.{false, not}
 use mathlib.Core.List.{List, [], ◌∷◌, ◌++◌, map, Memᴰ}
@@ -145,7 +145,7 @@ module _ (T : Table) (F : TableFits T) (start : ℕ) (h : start < length T.produ
             rw w.2 (state_fits w.0 (mem_less (length Rs) w.0 w.1)));
       }
 
-  -- document 01's ranges of a conflict's words: refusals 9 and 10 are not met
+  -- the ranges of a conflict's words: refusals 9 and 10 are not met
   pub record ClashFits (k : ℕ) (c : Clash) : Type 0 where
     pub state : k < length Rs
     pub production : c.production < length T.productions

@@ -1,4 +1,4 @@
--- `canonical`: the states and edges of specs/canonical/States are the canonical LR(1) automaton of specs/canonical/Canonical. Assumes nothing.
+-- `canonical`: the states and edges of specs/canonical/States are the canonical LR(1) automaton of specs/canonical/Canonical.
 use mathlib.Core.Path.{◌≡◌, refl, sym, ap, ◌∙◌, subst}
 use mathlib.Core.Bool.{true, false}
 use mathlib.Core.List.Memᴰ

@@ -1,4 +1,4 @@
--- The computed closure is the book's: `closure_exact`. Assumes nothing.
+-- The computed closure is the book's: `closure_exact`.
 use mathlib.Core.Path.{◌≡◌, refl, sym, ap, ◌∙◌, subst}
 use mathlib.Core.Bool.{true, false}
 use mathlib.Core.List.Memᴰ

@@ -1,5 +1,5 @@
 -- The states found: what `place`, `add`, `take` and `collect` of specs/canonical/States keep. `build_right`: no two numbers have one set, and of each state every edge
--- leads to its goto, with an edge exactly where that is not empty. Assumes nothing.
+-- leads to its goto, with an edge exactly where that is not empty.
 use mathlib.Core.Path.{◌≡◌, refl, sym, ap, ◌∙◌, subst}
 use mathlib.Core.Bool.{Bool, true, false}
 use mathlib.Core.List.{List, [], ◌∷◌, ◌++◌, Memᴰ}

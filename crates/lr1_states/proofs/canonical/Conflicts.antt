@@ -1,6 +1,6 @@
--- The conflicts listed are the book's: `conflicts_exact`; the pairs written are those that occur: `written_exact`. Assumes nothing.
+-- The conflicts listed are the book's: `conflicts_exact`; the pairs written are those that occur: `written_exact`.
 use mathlib.Core.Path.{◌≡◌, refl, sym, ap, ◌∙◌, subst}
-use mathlib.Core.Bool.{Bool, true, false, ◌&&◌, not}
+use mathlib.Core.Bool.{true, false, ◌&&◌, not}
 use mathlib.Core.List.Memᴰ
 use mathlib.Core.List.{List, map, Memᴰ}
 use mathlib.Core.Logic.{inl, inr, ⊎_elim, ◌↔◌}

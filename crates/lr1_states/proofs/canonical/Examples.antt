@@ -1,5 +1,5 @@
--- The states computed, and held against an independent model of the request's text. Each state is given as its pairs with their tokens, by production, then
--- index: `at production index set`. Assumes nothing.
+-- The states computed, and held against an independent model of the rule (docs/RULES.md, "Building states"). Each state is given as its pairs with their tokens, by production, then
+-- index: `at production index set`.
 use mathlib.Core.Bool.{not}
 use mathlib.Core.Path.{◌≡◌, refl}
 use mathlib.Core.List.{List, [], ◌∷◌, map}

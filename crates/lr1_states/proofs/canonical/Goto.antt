@@ -1,4 +1,4 @@
--- Moving over a symbol, the first state and the empty set: `goto_exact`, `start_exact`, `nothing-exact`. Assumes nothing.
+-- Moving over a symbol, the first state and the empty set: `goto_exact`, `start_exact`, `nothing-exact`.
 use mathlib.Core.Path.{◌≡◌, refl, sym, ap, ◌∙◌}
 use mathlib.Core.Bool.{true, false}
 use mathlib.Core.List.{List, [], ◌∷◌}

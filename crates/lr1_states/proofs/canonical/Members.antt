@@ -1,4 +1,4 @@
--- Membership in the lists that the definitions make: ranges, the kept, mapped and joined lists. Assumes nothing.
+-- Membership in the lists that the definitions make: ranges, the kept, mapped and joined lists.
 use mathlib.Core.Path.{◌≡◌, refl, sym, ap, ◌∙◌, subst}
 use mathlib.Core.Bool.{Bool, true}
 use mathlib.Core.List.{List, [], ◌∷◌, ◌++◌, map, Memᴰ}

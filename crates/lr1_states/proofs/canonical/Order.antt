@@ -1,5 +1,5 @@
--- Numbers and edges in the order of the request: all targets, by state and as tried, meet new numbers one after the other (`found_in_order`); the edges of a state
--- stand as tried, one for each symbol over which something moves (`edges_as_tried`). Assumes nothing.
+-- Numbers and edges in their order (docs/RULES.md, "Building states"): all targets, by state and as tried, meet new numbers one after the other (`found_in_order`); the edges of a state
+-- stand as tried, one for each symbol over which something moves (`edges_as_tried`).
 use mathlib.Core.Path.{◌≡◌, refl, sym, ap, ◌∙◌, subst}
 use mathlib.Core.Bool.{not}
 use mathlib.Core.List.{List, [], ◌∷◌, ◌++◌, map, append-nil}

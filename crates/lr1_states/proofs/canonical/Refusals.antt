@@ -1,6 +1,6 @@
 -- The order of refusals: the first state at which one applies decides (`refused-first`), more than 128 states are always refused (`halted-stops`), and a state
 -- found is tested the same whatever is found later (`stops_early`), so code may stop there; what is answered in full is what `canonical` speaks of
--- (`outcome-full`). Assumes nothing.
+-- (`outcome-full`).
 use mathlib.Core.Path.{◌≡◌, refl, sym, ap, ◌∙◌, subst}
 use mathlib.Core.Bool.{true, false}
 use mathlib.Core.List.{List, [], ◌∷◌, ◌++◌}

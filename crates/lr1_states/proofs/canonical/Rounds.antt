@@ -1,5 +1,5 @@
 -- The rounds of specs/canonical/States, as those of FIRST (proofs/Least of first): a round makes sets larger and never smaller, so they come to rest before the fuel of
--- `closure` does; at rest every move's tokens are in its target. Assumes nothing.
+-- `closure` does; at rest every move's tokens are in its target.
 use mathlib.Core.Path.{◌≡◌, refl, sym, ap, ◌∙◌, subst}
 use mathlib.Core.Bool.{true, false}
 use mathlib.Core.List.{List, [], ◌∷◌, ◌++◌, Memᴰ}

@@ -1,6 +1,6 @@
 -- What allows shortcuts in code: closing adds items at index 0 only, so two gotos are equal exactly if what moved is (`kernel_decides`) and no edge enters state 0
 -- (`not_first`); all index-0 items of one nonterminal have the same tokens (`same_ahead`); and whatever way the closure is computed, a list that has the
--- book's items is the closure (`closure_unique`). Assumes nothing.
+-- book's items is the closure (`closure_unique`).
 use mathlib.Core.Path.{◌≡◌, refl, sym, ap, ◌∙◌}
 use mathlib.Core.Bool.{false}
 use mathlib.Core.List.{List, [], ◌∷◌}

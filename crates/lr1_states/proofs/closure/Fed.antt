@@ -1,4 +1,4 @@
--- One law for each way through the code that feeds the nonterminals' sets (src/lib). Assumes nothing.
+-- One law for each way through the code that feeds the nonterminals' sets (src/lib).
 use Rattle.std.proofs.Common.{◌≡◌, ℕ, suc, ◌+◌, ◌*◌, ◌/◌, ◌%◌, ◌<◌, ◌≤◌, List, [], ◌∷◌, ◌++◌, length, get_or, drop, set, refl, ap, ◌∙◌, add-one, arith, length-set}
 use lib.Seq.{set-get_or}
 use Rattle.lr1_base.specs.repr.Sizes.{index_limit, production_room}

@@ -1,10 +1,9 @@
--- The packed words under specs/closure/Grammar: a production is the table's. Assumes nothing.
-use Rattle.std.proofs.Common.{◌≡◌, ℕ, zero, suc, ◌+◌, ◌*◌, ◌<◌, true, List, [], ◌∷◌, drop, refl, arith}
+-- The packed words under specs/closure/Grammar: a production is the table's.
+use Rattle.std.proofs.Common.{◌≡◌, ℕ, suc, ◌+◌, ◌*◌, ◌<◌, true, List, [], ◌∷◌, drop, refl, arith}
 use Rattle.lr1_base.specs.repr.Meaning.{Table, no_production, production_at}
 use Rattle.lr1_base.specs.repr.Listed.{list_is_fit}
 use Rattle.lr1_base.specs.repr.Packed.{Packed, symbol_words, production_in, productions_in}
 use Rattle.lr1_base.proofs.repr.Lists.{get_d_map-below}
-use Rattle.lr1_base.proofs.repr.Listed.{fits_head}
 use Rattle.lr1_states.specs.closure.Grammar.{OfTable}
 use Rattle.lr1_base.proofs.repr.Parts.{fits-drop}
 

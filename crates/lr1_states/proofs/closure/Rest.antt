@@ -1,8 +1,7 @@
 -- Rounds until one changes nothing: the 32 sets beside what is given are the list that specs/canonical/Aheads settles, and code that goes on until two lists
--- are the same comes to its end. Assumes nothing.
-use Rattle.std.proofs.Common.{◌≡◌, ℕ, zero, suc, ◌+◌, ◌-◌, ◌*◌, ◌/◌, ◌%◌, ◌^◌, ◌<◌, ◌≤◌, Bool, true, false, not, eqb, ltb, List, [], ◌∷◌, ◌++◌, length, get_or, take, drop, set, replicate, sym, refl, ap, ◌∙◌, subst, add-one, arith, length-append, length-drop, length-set, length-take, get_or-drop, get_or-set_other, get_or-take, get_or-set_same, get_or-append-add, ext_get_or, ltb-false, ltb-true, eq-eqb, eqb-true}
+-- are the same comes to its end.
+use Rattle.std.proofs.Common.{◌≡◌, ℕ, zero, suc, ◌+◌, ◌-◌, ◌*◌, ◌/◌, ◌%◌, ◌^◌, ◌<◌, ◌≤◌, Bool, true, false, not, eqb, ltb, List, [], ◌∷◌, ◌++◌, length, get_or, take, drop, set, replicate, sym, refl, ap, ◌∙◌, subst, add-one, arith, length-append, length-drop, length-set, length-take, get_or-drop, get_or-set_other, get_or-take, get_or-set_same, get_or-append-add, ext_get_or, ltb-false, ltb-true, eqb-true}
 use mathlib.Core.List.{Memᴰ}
-use lib.Pointwise.{pointwise}
 use lib.ListN.{get_or-append, get_or-eq_default}
 use borrow.Author.Tests.{eqb-false}
 use Rattle.lr1_base.specs.repr.Sizes.{index_limit, item_limit, production_room}

@@ -1,4 +1,4 @@
--- Laws of taking state after state, one for each way through the code. Assumes nothing.
+-- Laws of taking state after state, one for each way through the code.
 use Rattle.std.proofs.Common.{Ok, Err}
 use mathlib.Core.Path.{◌≡◌, refl, sym, ap, ◌∙◌}
 use mathlib.Core.Bool.{true}

@@ -1,4 +1,4 @@
--- Laws of the whole search. Assumes nothing.
+-- Laws of the whole search.
 use mathlib.Core.Path.{◌≡◌, refl}
 use Rattle.std.proofs.Common.{Result, Err}
 use mathlib.Core.Bool.{true, false}

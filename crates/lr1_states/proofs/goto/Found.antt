@@ -1,4 +1,4 @@
--- One state more, in words: what `store` and `goto_over` come to. Assumes nothing.
+-- One state more, in words: what `store` and `goto_over` come to.
 use Rattle.std.proofs.Common.{◌≡◌, ℕ, zero, suc, ◌+◌, ◌-◌, ◌*◌, ◌/◌, ◌<◌, ◌≤◌, min, true, false, Option, Some, None, Result, Ok, Err, eqb, ltb, List, [], ◌∷◌, ◌++◌, length, get_or, take, set, sym, refl, ap, ◌∙◌, arith, length-take-le, le-ltb, lt-ltb, ne_eqb, eqb-true}
 use lib.ListN.{get_or-append}
 use lib.Seq.{take-length}

@@ -1,4 +1,4 @@
--- Laws of what one step leaves, one for each way through the code. Assumes nothing.
+-- Laws of what one step leaves, one for each way through the code.
 use Rattle.std.proofs.Common.{◌≡◌, ℕ, zero, suc, ◌+◌, ◌-◌, ◌*◌, ◌^◌, ◌<◌, ◌≤◌, true, false, eqb, ltb, List, ◌∷◌, ◌++◌, map, length, get_or, take, drop, set, replicate, sym, refl, ap, ◌∙◌, arith, length-append, take_at, get_or-append-add, ltb-false, ltb-true, eqb-true}
 use lib.ListN.{length-replicate, get_or-append}
 use borrow.Author.Tests.{eqb-false}

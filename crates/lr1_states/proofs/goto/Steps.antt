@@ -1,4 +1,4 @@
--- Stopping where a state is refused answers what `outcome` answers (`outcome_steps`). Assumes nothing.
+-- Stopping where a state is refused answers what `outcome` answers (`outcome_steps`).
 use Rattle.std.proofs.Common.{◌≡◌, ℕ, zero, suc, ◌+◌, ◌<◌, ◌≤◌, true, false, eqb, ltb, List, [], ◌∷◌, ◌++◌, length, get_or, sym, refl, ap, ◌∙◌, subst, arith, length-append, ltb-false, ltb-true, le-ltb, lt-ltb, eqb-true}
 use mathlib.Core.Option.{Option, none, some}
 use lib.ListN.{get_or-append}

@@ -1,4 +1,4 @@
--- Laws of state 0. Assumes nothing.
+-- Laws of state 0.
 use mathlib.Core.Path.{◌≡◌, refl, sym, ap, ◌∙◌}
 use mathlib.Core.Bool.{Bool, true, false}
 use Rattle.std.proofs.Common.{Result, Ok, Err, MatchResult}

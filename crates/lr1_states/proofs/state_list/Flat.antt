@@ -1,4 +1,4 @@
--- A packed state flat again is the state (`unpacked-packed`); what is stored is read, and nothing before it changes (`put_all_here`, `put_all-before`). Assumes nothing.
+-- A packed state flat again is the state (`unpacked-packed`); what is stored is read, and nothing before it changes (`put_all_here`, `put_all-before`).
 use Rattle.std.specs.Prelude.{◌≡◌, ℕ, zero, suc, ◌+◌, ◌-◌, ◌*◌, ◌<◌, ◌≤◌, eqb, ltb, List, [], ◌∷◌, ◌++◌, length, get_or, set, replicate}
 use mathlib.Core.Path.{refl, sym, ap, ◌∙◌}
 use native.Mathlib.Numerals.{add-one}

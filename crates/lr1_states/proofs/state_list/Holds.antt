@@ -1,5 +1,5 @@
 -- Words that hold states (specs/state_list/Made): one state more stored behind them (`holds_more`), how many items they have (`holds_counted`), and a kernel looked for among
--- them (`holds_place`). Assumes nothing.
+-- them (`holds_place`).
 use Rattle.std.specs.Prelude.{◌≡◌, ℕ, zero, suc, ◌+◌, ◌-◌, ◌<◌, ◌≤◌, eqb, List, [], ◌∷◌, ◌++◌, map, length, get_or, take, set}
 use mathlib.Core.Path.{refl, sym, ap, ◌∙◌}
 use native.Mathlib.Numerals.{add-one}

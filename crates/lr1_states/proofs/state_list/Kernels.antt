@@ -1,4 +1,4 @@
--- Kernels: two of one state's size are the same items past index 0 exactly if the sets there are; so a goto is compared before it is closed (`place_kernel`). Assumes nothing.
+-- Kernels: two of one state's size are the same items past index 0 exactly if the sets there are; so a goto is compared before it is closed (`place_kernel`).
 use Rattle.std.specs.Prelude.{◌≡◌, ℕ, zero, suc, ◌+◌, ◌%◌, ◌<◌, ◌≤◌, Bool, true, false, ◌&&◌, eqb, List, [], ◌∷◌, map, length, get_or}
 use mathlib.Core.Path.{refl, sym, ap, ◌∙◌}
 use native.Mathlib.Omega.{arith}

@@ -1,4 +1,4 @@
--- A goto's kernel in words: the items of a state moved over a symbol are the places of `moved` that have a token (`packed-moved`). Assumes nothing.
+-- A goto's kernel in words: the items of a state moved over a symbol are the places of `moved` that have a token (`packed-moved`).
 use Rattle.std.proofs.Common.{◌≡◌, ℕ, zero, suc, ◌+◌, ◌*◌, ◌/◌, ◌%◌, ◌<◌, ◌≤◌, true, false, not, eqb, ltb, List, [], ◌∷◌, ◌++◌, length, get_or, drop, sym, refl, ap, ◌∙◌, arith, ltb-false, ltb-true, eq-eqb, ne_eqb, eqb-true}
 use lib.ListN.{get_or-eq_default}
 use borrow.Author.Tests.{eqb-false}

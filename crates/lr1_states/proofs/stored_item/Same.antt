@@ -1,4 +1,4 @@
--- Comparing kernels as the library's `eq` does: two lists, place by place. Assumes nothing.
+-- Comparing kernels as the library's `eq` does: two lists, place by place.
 use Rattle.std.proofs.Common.{◌≡◌, ℕ, ◌%◌, Bool, true, false, not, ◌&&◌, eqb, Option, Some, None, List, [], ◌∷◌, map, length, sym, ap, ◌∙◌, arith, eqb-true}
 use borrow.Author.Tests.{eqb-false}
 use Rattle.std.specs.Iterator.{Yields, AlwaysYields, ComparesItemsByEq}

@@ -1,4 +1,4 @@
--- Laws of taking a state, one for each way through the code. Assumes nothing.
+-- Laws of taking a state, one for each way through the code.
 use Rattle.std.proofs.Common.{true, false, Some, None, Ok, Err}
 use mathlib.Core.Path.{◌≡◌, refl, sym, ap, ◌∙◌}
 use mathlib.Core.List.{List, [], ◌∷◌, ◌++◌, map, append-nil, append_assoc}

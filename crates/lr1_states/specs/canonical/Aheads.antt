@@ -1,5 +1,5 @@
 -- The closure as code computes it: what is given stays, and beside it stands one set for each of 32 nonterminals, the tokens of all its index-0 items. The rounds
--- are those of specs/canonical/States, over other moves. Assumes nothing: these are definitions.
+-- are those of specs/canonical/States, over other moves.
 use Rattle.std.specs.Prelude.{ℕ, suc, ◌+◌, ◌*◌, ◌/◌, ◌%◌, ◌^◌, true, false, List, [], ◌∷◌, ◌++◌, map, length, get_or, replicate, eqb}
 use Rattle.lr1_base.specs.repr.Sizes.{index_limit}
 use Rattle.lr1_base.specs.repr.Lists.{below, joined}

@@ -1,4 +1,4 @@
--- The table that is written, as a meaning: the grammar that was lent, with the states found; and the words of its conflicts. Assumes nothing: these are definitions.
+-- The table that is written, as a meaning: the grammar that was lent, with the states found; and the words of its conflicts.
 use Rattle.std.specs.Prelude.{ℕ, List, [], ◌∷◌, map, length, get_or}
 use Rattle.lr1_base.specs.repr.Lists.{below, joined}
 use Rattle.lr1_base.specs.repr.Meaning.{Edge, State, Table}

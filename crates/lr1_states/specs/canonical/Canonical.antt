@@ -1,5 +1,5 @@
 -- The canonical LR(1) item sets of Aho, Sethi and Ullman, as the book has them: an item has one token, a set is what its rules give. No fuel, no numbers
--- for sets. Tokens 0 to T - 1 are terminals, T is the end. Assumes nothing: these are definitions.
+-- for sets. Tokens 0 to T - 1 are terminals, T is the end.
 use Rattle.std.specs.Prelude.{ℕ, suc, ◌<◌, ◌≡◌, ◌⊎◌, length, drop}
 use mathlib.Core.List.{List, [], ◌∷◌, Memᴰ}
 use Rattle.lr1_base.specs.repr.Meaning.{Symbol, nonterminal, terminal, Item, Table, production_at}
@@ -46,7 +46,7 @@ Viable T start w = Reached T (Closed T (Start T start)) w
 abbrev pub Inhabited : Set → Type 0
 Inhabited K = (i : Item) × (a : ℕ) × K i a
 
--- conflicts of a set (request 01's list): the complete item of production p reduces with token a, the start production's too
+-- conflicts of a set (docs/RULES.md, "Building states"): the complete item of production p reduces with token a, the start production's too
 
 abbrev pub Reduces : Table → Set → ℕ → ℕ → Type 0
 Reduces T K p a = K (record { production = p; index = length (production_at T p).symbols }) a
@@ -55,7 +55,7 @@ Reduces T K p a = K (record { production = p; index = length (production_at T p)
 abbrev pub Shifts : Table → Set → ℕ → Type 0
 Shifts T K t = (i : Item) × (a : ℕ) × (β : List Symbol) × (rest T i ≡ terminal t ∷ β) × K i a
 
--- document 01's five words without the state: action 0 is a shift of `other`, the token itself, 1 a reduction by production `other`
+-- the five words of a conflict without the state: action 0 is a shift of `other`, the token itself, 1 a reduction by production `other`
 pub record Clash : Type 0 where
   pub production : ℕ
   pub action : ℕ

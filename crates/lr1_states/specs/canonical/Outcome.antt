@@ -1,4 +1,4 @@
--- Refusals 16 and 17 of request 01, in the order of time, or the states and edges. Words, refusals 1 to 8, 11 and 18 are not here. Assumes nothing: these are definitions.
+-- Refusals 16 and 17 of building states, in the order of time, or the states and edges. Words, refusals 1 to 8, 11 and 18 are not here.
 use Rattle.std.specs.Prelude.{ℕ, suc, ◌+◌, ◌*◌, min, Bool, true, false, List, [], ◌∷◌, length, take, eqb, ltb}
 use Rattle.std.proofs.Math.Option.{none, some}
 use Rattle.lr1_base.specs.repr.Sizes.{record_limit}

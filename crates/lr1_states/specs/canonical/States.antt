@@ -1,5 +1,5 @@
 -- The same sets computed. A state is a list of token sets (specs/lookahead/Tokens of lr1_base), item [production, index] at 17 * production + index, so that its order
--- is by production, then index, and two states are equal exactly if their lists are. Assumes nothing: these are definitions.
+-- is by production, then index, and two states are equal exactly if their lists are.
 use Rattle.std.specs.Prelude.{ℕ, zero, suc, ◌+◌, ◌*◌, ◌/◌, ◌%◌, ◌^◌, Bool, true, false, ◌&&◌, not, List, [], ◌∷◌, ◌++◌, map, length, get_or, set, replicate, drop, eqb, ltb}
 use Rattle.std.proofs.Math.Option.{Option, none, some}
 use Rattle.lr1_base.specs.repr.Sizes.{index_limit}

@@ -1,5 +1,4 @@
 -- The sets of the nonterminals alone, while a state is closed: what is given stays as it is, so the rounds of specs/canonical/Aheads change these 32 sets only.
--- Assumes nothing: these are definitions.
 use Rattle.std.specs.Prelude.{◌≡◌, ℕ, ◌*◌, ◌^◌, ◌<◌, List, [], ◌∷◌, length, slice_index, slice_set}
 use Rattle.lr1_base.specs.repr.Sizes.{index_limit, item_limit, production_room}
 use Rattle.lr1_base.specs.repr.Lists.{below}

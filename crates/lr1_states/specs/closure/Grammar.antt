@@ -1,4 +1,4 @@
--- The grammar as the code of request 01 holds it: packed productions, the number of terminals, FIRST's sets. Assumes nothing: these are definitions.
+-- The grammar as building states holds it: packed productions, the number of terminals, FIRST's sets.
 use Rattle.std.specs.Prelude.{◌≡◌, ℕ, List, length}
 use Rattle.lr1_base.specs.repr.Meaning.{Table, TableFits}
 use Rattle.lr1_base.specs.repr.Packed.{Packed, productions_in}

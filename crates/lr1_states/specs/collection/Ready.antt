@@ -1,4 +1,4 @@
--- What a whole search gets: the grammar of some table in words, and its numbers. Assumes nothing: these are definitions.
+-- What a whole search gets: the grammar of some table in words, and its numbers.
 use Rattle.std.specs.Prelude.{ℕ, ◌≤◌, ◌<◌}
 use Rattle.lr1_base.specs.repr.Meaning.{Table}
 use Rattle.lr1_states.specs.closure.Grammar.{OfTable}

@@ -1,4 +1,4 @@
--- All states found: their edges in words, and where each state's begin. Assumes nothing: these are definitions.
+-- All states found: their edges in words, and where each state's begin.
 use Rattle.std.specs.Prelude.{Result, Ok, Err, ℕ, ◌+◌, ◌-◌, ◌≤◌, ◌<◌, ◌≡◌, List, map, length, get_or}
 use Rattle.lr1_base.specs.repr.Lists.{below}
 use Rattle.lr1_base.specs.repr.Meaning.{Edge, Table}

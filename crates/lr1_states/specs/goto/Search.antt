@@ -1,4 +1,4 @@
--- What stands in the words while states are found, and what one step leaves. Assumes nothing: these are definitions.
+-- What stands in the words while states are found, and what one step leaves.
 use Rattle.std.specs.Prelude.{◌≡◌, ℕ, ◌+◌, ◌*◌, ◌^◌, ◌<◌, ◌≤◌, min, Bool, true, false, Option, Some, None, Result, Ok, Err, List, [], length, slice_index, slice_index_or, slice_set}
 use Rattle.lr1_base.specs.repr.Sizes.{index_limit, record_limit}
 use Rattle.lr1_base.specs.repr.Meaning.{Symbol, nonterminal, terminal, Production, Table}

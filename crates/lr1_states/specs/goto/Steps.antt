@@ -1,5 +1,5 @@
 -- `outcome` of specs/canonical/Outcome as code goes: a state that 16 or 17 refuses ends the search where it is found. `outcome_steps` of proofs/goto/Steps says that
--- nothing else changes. Assumes nothing: these are definitions.
+-- nothing else changes.
 use Rattle.std.specs.Prelude.{ℕ, zero, suc, true, false, List, [], ◌∷◌, ◌++◌, length, nat_lt, slice_index_or}
 use Rattle.lr1_base.specs.repr.Meaning.{Symbol, Edge, Table}
 use Rattle.lr1_states.specs.canonical.States.{moved, nothing?, goto, place, tried, start_state, built}

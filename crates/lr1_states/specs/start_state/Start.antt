@@ -1,4 +1,4 @@
--- State 0 stored, or refused. Assumes nothing: these are definitions.
+-- State 0 stored, or refused.
 use Rattle.std.specs.Prelude.{ℕ, ◌+◌, min, Bool, true, false, ◌≡◌, List, [], ◌∷◌, length}
 use Rattle.lr1_base.specs.repr.Sizes.{record_limit}
 use Rattle.lr1_base.specs.repr.Meaning.{Production, Table}

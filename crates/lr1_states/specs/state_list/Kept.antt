@@ -1,4 +1,4 @@
--- The states found, in words: their items one state behind the other (specs/stored_item/Stored), and where each begins. Assumes nothing: these are definitions.
+-- The states found, in words: their items one state behind the other (specs/stored_item/Stored), and where each begins.
 use Rattle.std.specs.Prelude.{◌≡◌, ℕ, suc, ◌+◌, ◌-◌, ◌*◌, ◌<◌, ◌≤◌, true, false, List, [], ◌∷◌, map, length, replicate, slice_index, slice_set}
 use Rattle.lr1_base.specs.repr.Sizes.{record_limit, state_limit, item_limit}
 use Rattle.lr1_base.specs.repr.Lists.{below}

@@ -1,4 +1,4 @@
--- The states found while `build` of specs/canonical/States goes on, and the one predicate that ties them to the words. Assumes nothing: these are definitions.
+-- The states found while `build` of specs/canonical/States goes on, and the one predicate that ties them to the words.
 use Rattle.std.specs.Prelude.{◌≡◌, ℕ, ◌+◌, ◌<◌, false, List, [], length, get_or, slice_index, slice_index_or}
 use Rattle.lr1_base.specs.repr.Meaning.{Symbol, Table}
 use Rattle.lr1_states.specs.canonical.States.{start_state, nothing?, moved, goto}

@@ -1,5 +1,5 @@
 -- Items with their tokens in words, five each: the place (17 * production + index), then the set in four words, the lowest first. A state's items stand one
--- behind the other, by place. Assumes nothing: these are definitions.
+-- behind the other, by place.
 use Rattle.std.specs.Prelude.{◌≡◌, ℕ, ◌+◌, ◌*◌, ◌/◌, ◌%◌, ◌≤◌, Bool, true, false, not, ◌&&◌, List, [], ◌∷◌, ◌++◌, map, length, drop, ◌==◌, slice_index, slice_set}
 use Rattle.lr1_base.specs.repr.Sizes.{index_limit}
 use Rattle.lr1_base.specs.repr.Lists.{up_from, below, keep}

@@ -1,5 +1,4 @@
 -- The edges found, in words: one each, symbol * 128 + target, those of a state one behind the other as tried; and what taking a state leaves.
--- Assumes nothing: these are definitions.
 use Rattle.std.specs.Prelude.{ℕ, ◌+◌, ◌-◌, ◌*◌, ◌/◌, ◌%◌, ◌≤◌, ◌<◌, true, false, Result, Ok, Err, ◌≡◌, List, map, length, get_or, set, nat_lt}
 use Rattle.lr1_base.specs.repr.Sizes.{state_limit}
 use Rattle.lr1_base.specs.repr.Lists.{up_from}

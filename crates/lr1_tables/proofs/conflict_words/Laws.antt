@@ -1,4 +1,4 @@
--- Laws of conflicts written one behind the other, one for each way through the code. Assumes nothing.
+-- Laws of conflicts written one behind the other, one for each way through the code.
 use Rattle.std.specs.Prelude.{◌≡◌, ℕ, ◌+◌, ◌-◌, ◌<◌, ◌≤◌, List, [], ◌∷◌, ◌++◌, map, length, get_or}
 use mathlib.Core.Path.{refl, sym, ap, ◌∙◌}
 use mathlib.Core.List.{append-nil}

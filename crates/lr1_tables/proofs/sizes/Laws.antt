@@ -1,4 +1,4 @@
--- Laws of counting over all states, and of refusal 17 at the end. Assumes nothing.
+-- Laws of counting over all states, and of refusal 17 at the end.
 use mathlib.Core.Path.{◌≡◌, refl, sym, ap, ◌∙◌}
 use mathlib.Core.Bool.{Bool, true, false, ◌&&◌}
 use mathlib.Core.List.{List, [], ◌∷◌, ◌++◌, map}
@@ -6,13 +6,13 @@ use Prim.Native.Nat.{ℕ, zero, suc, ◌+◌, ◌-◌, ◌*◌, ◌^◌, ◌≤�
 use native.Mathlib.Numerals.{add-one}
 use native.Mathlib.Omega.{arith}
 use lib.Dec.{ltb}
-use lib.ListN.{length, get_or, take, replicate, length-append, length-replicate, get_or-append}
-use lib.Seq.{get_or-append-add, take_at}
-use borrow.Author.Tests.{ltb-true, ltb-false, lt-ltb, le-ltb}
+use lib.ListN.{length, get_or, take, replicate, length-append, length-replicate}
+use lib.Seq.{take_at}
+use borrow.Author.Tests.{lt-ltb, le-ltb}
 use Rattle.lr1_base.specs.repr.Sizes.{record_limit, index_limit, item_limit}
 use Rattle.lr1_base.specs.repr.Lists.{up_from, below, keep, joined}
 use Rattle.lr1_base.specs.repr.Meaning.{Edge, Table, TableFits}
-use Rattle.lr1_base.proofs.repr.Lists.{cases, below_last, length_mapped, length-up_from, length-keep, length-below}
+use Rattle.lr1_base.proofs.repr.Lists.{below_last, length_mapped, length-up_from, length-keep, length-below}
 use Rattle.lr1_states.specs.canonical.States.{places, reduces, shifts, clashes_of, clashes}
 use Rattle.lr1_states.specs.canonical.Canonical.{Clash}
 use Rattle.lr1_base.specs.lookahead.Tokens.{has, meet, members}
@@ -37,7 +37,6 @@ use Rattle.lr1_states.specs.declared.goto.Halt.TheVariants.{Records}
 use Rattle.lr1_states.specs.declared.goto.Sizes.{Sizes}
 use Rattle.lr1_tables.specs.declared.sizes.KeptStates.{KeptStates}
 use Rattle.lr1_tables.specs.sizes.Complete.{Collection, Complete, MeasuredAs}
-use Rattle.lr1_base.proofs.laws.Lists.{zero_at}
 
 -- a state flat again
 

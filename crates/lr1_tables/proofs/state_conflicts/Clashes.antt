@@ -1,4 +1,4 @@
--- The conflicts by token sets are those of specs/canonical/States of lr1_states. Assumes nothing.
+-- The conflicts by token sets are those of specs/canonical/States of lr1_states.
 use mathlib.Core.Path.{◌≡◌, refl, sym, ap, ◌∙◌}
 use mathlib.Core.Bool.{Bool, true, false, ◌&&◌}
 use mathlib.Core.List.{List, [], ◌∷◌}

@@ -1,4 +1,4 @@
--- Laws of the conflicts by numbers (specs/state_conflicts/Clashed): one production more, how many they are, and they are the state's (`clashes_in_lem`). Assumes nothing.
+-- Laws of the conflicts by numbers (specs/state_conflicts/Clashed): one production more, how many they are, and they are the state's (`clashes_in_lem`).
 use Rattle.std.proofs.Common.{◌≡◌, ℕ, zero, suc, ◌+◌, ◌-◌, ◌*◌, ◌<◌, ◌≤◌, true, not, ltb, List, [], ◌∷◌, ◌++◌, map, length, get_or, take, sym, refl, ap, ◌∙◌, add-one, arith, length-append, ltb-true}
 use mathlib.Core.Bool.{and-false}
 use Rattle.lr1_base.specs.repr.Sizes.{index_limit}

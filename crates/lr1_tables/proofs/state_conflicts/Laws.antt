@@ -1,4 +1,4 @@
--- Laws of the tokens that complete items reduce with. Assumes nothing.
+-- Laws of the tokens that complete items reduce with.
 use Rattle.std.proofs.Common.{◌≡◌, ℕ, ◌+◌, ◌*◌, ◌<◌, ◌≤◌, eqb, List, length, get_or, take, set, sym, ap, ◌∙◌, arith, get_or-set_other, get_or-take, get_or-set_same, eqb-true}
 use borrow.Author.Tests.{eqb-false}
 use Rattle.lr1_base.specs.repr.Sizes.{index_limit}

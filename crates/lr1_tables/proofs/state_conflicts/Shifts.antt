@@ -1,5 +1,5 @@
 -- The set of the terminals that a state shifts: one place more (`shift_none` to `shifted-more`), and by the places it is the one of specs/state_conflicts/Clashes
--- (`shifted_is`). Assumes nothing.
+-- (`shifted_is`).
 use Rattle.std.proofs.Common.{◌≡◌, ℕ, suc, ◌+◌, ◌*◌, ◌/◌, ◌%◌, ◌<◌, ◌≤◌, Bool, true, false, not, ◌&&◌, ◌||◌, eqb, ltb, List, [], ◌∷◌, get_or, take, drop, sym, refl, ap, ◌∙◌, add-one, arith, get_or-take, ltb-false, ltb-true, le-ltb, lt-ltb, eq-eqb, ne_eqb, eqb-true}
 use mathlib.Core.Bool.{and-false, or-false}
 use borrow.Author.Tests.{eqb-false, not-true}

@@ -1,4 +1,4 @@
--- Laws of the writing of states, items and edges. Assumes nothing.
+-- Laws of the writing of states, items and edges.
 use mathlib.Core.Path.{refl, ◌≡◌, sym, ap, ◌∙◌}
 use mathlib.Core.List.{List, [], ◌∷◌, map}
 use Prim.Native.Nat.{ℕ, zero, suc, ◌+◌, ◌-◌, ◌*◌, ◌/◌, ◌%◌, ◌≤◌, ◌<◌}
@@ -10,7 +10,7 @@ use Rattle.lr1_base.specs.repr.Listed.{symbol_of_kind}
 use Rattle.lr1_base.specs.repr.Meaning.{Symbol, nonterminal, Item, Edge, State, Table, no_state, state_at}
 use Rattle.lr1_base.proofs.repr.Lists.{length-up_from, get_d_up_from, get_d_map, length_mapped}
 use Rattle.table.specs.Quads.{Quad, no_quad, put_quad}
-use Rattle.table_rewrite.specs.spelling.Spelled.{head_of, chain_from, place_of, size_of, kind_of, number_of, item_quad, edge_quad, item_lists, edge_lists, states_at, productions_at, items_place, edges_at, records_of, state_quad, quads}
+use Rattle.table_rewrite.specs.spelling.Spelled.{head_of, chain_from, place_of, size_of, item_quad, edge_quad, item_lists, edge_lists, states_at, productions_at, items_place, edges_at, records_of, state_quad, quads}
 use Rattle.table_rewrite.specs.spelling.Grown.{Grown, Room, Stands}
 use Rattle.table_rewrite.proofs.spelling.Laid.{length_chain_from, get_d_chain_from}
 use Rattle.table_rewrite.proofs.spelling.Places.{begins, regions, state_at_lem, items_stand, edges_stand, items_within, edges_within, spell_next, spell_one, spell_two, spell_three}

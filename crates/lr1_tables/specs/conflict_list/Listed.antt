@@ -1,4 +1,4 @@
--- The words of the conflicts of one state and of all, of the states that words hold. Assumes nothing: these are definitions.
+-- The words of the conflicts of one state and of all, of the states that words hold.
 use Rattle.std.specs.Prelude.{ℕ, List, [], get_or}
 use Rattle.lr1_base.specs.repr.Lists.{joined}
 use Rattle.lr1_base.specs.repr.Meaning.{Table}

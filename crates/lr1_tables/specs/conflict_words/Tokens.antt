@@ -1,10 +1,10 @@
--- The words of a conflict from its pair and its token. Assumes nothing: these are definitions.
+-- The words of a conflict from its pair and its token.
 use Rattle.std.specs.Prelude.{ℕ, List, [], ◌∷◌}
 use Rattle.lr1_tables.specs.declared.conflict_words.Action.{Action}
 use Rattle.lr1_tables.specs.declared.conflict_words.Action.TheVariants.{Shift, Reduce}
 use Rattle.lr1_tables.specs.declared.conflict_words.Pair.{Pair}
 
--- document 01's number of an action
+-- the number of an action
 abbrev pub kind_of : Action → ℕ
 kind_of Shift = 0
 kind_of (Reduce q) = 1

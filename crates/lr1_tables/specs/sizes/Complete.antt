@@ -1,4 +1,4 @@
--- All states found, as words hold them: what counting and writing them gets, and what is decided at the end. Assumes nothing: these are definitions.
+-- All states found, as words hold them: what counting and writing them gets, and what is decided at the end.
 use Rattle.std.specs.Prelude.{Result, Ok, Err, ℕ, ◌+◌, ◌≤◌, ◌<◌, ◌≡◌, List, length}
 use Rattle.lr1_base.specs.repr.Meaning.{Edge, Table}
 use Rattle.lr1_states.specs.closure.Grammar.{OfTable}

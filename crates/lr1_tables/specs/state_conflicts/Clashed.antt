@@ -1,4 +1,4 @@
--- The conflicts of a state by numbers: r is the list of specs/state_conflicts/Reductions, sh the set of the terminals that are shifted. Assumes nothing: these are definitions.
+-- The conflicts of a state by numbers: r is the list of specs/state_conflicts/Reductions, sh the set of the terminals that are shifted.
 use Rattle.std.specs.Prelude.{◌≡◌, ℕ, ◌+◌, ◌-◌, ◌/◌, ◌%◌, Bool, not, ◌&&◌, List, ◌++◌, map, ◌==◌, nat_lt, slice_index}
 use Rattle.lr1_base.specs.repr.Sizes.{index_limit, terminal_limit}
 use Rattle.lr1_base.specs.repr.Lists.{up_from, below, joined, some?}

@@ -1,5 +1,5 @@
 -- The conflicts of a state as code counts and writes them: of each production the tokens of its complete item that are shifted too, then for each higher production
--- those of both. `clashes_with_lem` of proofs/state_conflicts/Clashes: these are `clashes_of` of specs/canonical/States of lr1_states. Assumes nothing: these are definitions.
+-- those of both. `clashes_with_lem` of proofs/state_conflicts/Clashes: these are `clashes_of` of specs/canonical/States of lr1_states.
 use Rattle.std.specs.Prelude.{ℕ, suc, ◌-◌, ◌&&◌, ◌≡◌, List, ◌++◌, map, length, ltb}
 use Rattle.lr1_base.specs.repr.Lists.{up_from, joined}
 use Rattle.lr1_base.specs.repr.Meaning.{Table}

@@ -1,4 +1,4 @@
--- The tokens that each production's complete item reduces with, in a list. Assumes nothing: these are definitions.
+-- The tokens that each production's complete item reduces with, in a list.
 use Rattle.std.specs.Prelude.{◌≡◌, ℕ, ◌*◌, ◌<◌, List, take, slice_index}
 use Rattle.lr1_base.specs.repr.Sizes.{index_limit}
 use Rattle.lr1_base.specs.repr.Meaning.{Table}

@@ -1,4 +1,4 @@
--- The states of a table as the search leaves them: items and edges one state behind the other, and where each state's begin. Assumes nothing: these are definitions.
+-- The states of a table as the search leaves them: items and edges one state behind the other, and where each state's begin.
 use Rattle.std.specs.Prelude.{ℕ, ◌+◌, ◌*◌, ◌/◌, ◌%◌, ◌≤◌, ◌<◌, ◌≡◌, List, [], map, length, get_or}
 use Rattle.lr1_base.specs.repr.Sizes.{index_limit, record_limit, state_limit}
 use Rattle.lr1_base.specs.repr.Meaning.{Item, Table, state_at}

@@ -1,4 +1,4 @@
--- Text put into bytes piece by piece (`Put` of specs/conflict_lines/Lines). Assumes nothing.
+-- Text put into bytes piece by piece (`Put` of specs/conflict_lines/Lines).
 use Prim.Native.Nat.{ℕ, suc, ◌+◌, ◌≤◌, ◌<◌}
 use native.Mathlib.Nat.{add-zero}
 use native.Mathlib.Omega.{arith}

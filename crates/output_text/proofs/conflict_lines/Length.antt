@@ -1,5 +1,5 @@
--- The printed length of an example (request 05) is the number of its symbols: prefixes, the symbol at the cursor if there is one, suffixes. So it is the number of
--- places, or one less where the empty mark stands at the cursor. Assumes nothing.
+-- The printed length of an example (docs/RULES.md, "The explaining program") is the number of its symbols: prefixes, the symbol at the cursor if there is one, suffixes. So it is the number of
+-- places, or one less where the empty mark stands at the cursor.
 use Prim.Native.Nat.{ℕ, ◌+◌, ◌≤◌}
 use native.Mathlib.Omega.{arith}
 use mathlib.Core.Path.{◌≡◌, refl, sym, ap, ◌∙◌}

@@ -1,4 +1,4 @@
--- The lines of specs/conflict_lines/Lines, put piece by piece. Assumes nothing.
+-- The lines of specs/conflict_lines/Lines, put piece by piece.
 use Prim.Native.Nat.{ℕ, zero, suc, ◌+◌, ◌*◌, ◌≤◌, ◌<◌}
 use native.Mathlib.Omega.{arith}
 use mathlib.Core.Path.{◌≡◌, refl, sym, ap, ◌∙◌}

@@ -1,4 +1,4 @@
--- The lines of specs/table_text/Typed, put piece by piece. Assumes nothing.
+-- The lines of specs/table_text/Typed, put piece by piece.
 use Prim.Native.Nat.{ℕ, suc, ◌+◌, ◌-◌, ◌*◌, ◌≤◌, ◌<◌}
 use native.Mathlib.Omega.{arith}
 use mathlib.Core.Bool.{Bool, true, false, ◌||◌}

@@ -1,4 +1,4 @@
--- The lines that the explaining program prints (document 01, Table B and its program run), as bytes. Assumes nothing: these are definitions.
+-- The lines that the explaining program prints (docs/RULES.md, "The explaining program"), as bytes.
 use Rattle.std.specs.Prelude.{ℕ, ◌+◌, ◌*◌, ◌≤◌, ◌≡◌, true, false, List, [], ◌∷◌, ◌++◌, length, get_or, take, drop, eqb}
 use Rattle.lr1_base.specs.repr.Sizes.{reduction_limit, example_symbols, reduction_room, reduction_place}
 use Rattle.lr1_base.specs.repr.Lists.{joined}
@@ -87,7 +87,7 @@ pub record Put (old : List ℕ) (at : ℕ) (text new : List ℕ) (after : ℕ) :
   pub place : after ≡ at + length text
   pub long : length new ≡ length old
 
--- an example's words are whole: its counts within document 01's limits, and all its symbols and reductions there
+-- an example's words are whole: its counts within the limits, and all its symbols and reductions there
 pub record Whole (b : List ℕ) : Type 0 where
   pub few_symbols : get_or b 0 0 ≤ example_symbols
   pub few_reductions : get_or b 2 0 ≤ reduction_limit

@@ -1,4 +1,4 @@
--- A table typed as text, a line a record: its four words, then a comment that says what it is. Assumes nothing: these are definitions.
+-- A table typed as text, a line a record: its four words, then a comment that says what it is.
 use Rattle.std.specs.Prelude.{ℕ, ◌+◌, ◌-◌, ◌*◌, ◌≤◌, ◌<◌, Bool, true, false, ◌||◌, List, [], ◌∷◌, ◌++◌, get_or, take, drop, eqb, ltb}
 use Rattle.lr1_base.specs.repr.Sizes.{production_place}
 use Rattle.lr1_base.specs.repr.Lists.{joined}

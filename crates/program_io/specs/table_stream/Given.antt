@@ -1,4 +1,4 @@
--- What a program has read of a stream. Assumes nothing: these are definitions.
+-- What a program has read of a stream.
 use Rattle.std.specs.Prelude.{ℕ, ◌*◌, ◌≤◌, ◌≡◌, List, take, Result, Ok, Err}
 use Rattle.lr1_base.specs.repr.Sizes.{record_limit}
 use Rattle.lr1_base.specs.le_words.Little.{words_of}

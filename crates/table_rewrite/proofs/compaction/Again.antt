@@ -1,4 +1,4 @@
--- Taking back unused records a second time moves nothing and counts the same, on the whole slice and on its front. Assumes nothing.
+-- Taking back unused records a second time moves nothing and counts the same, on the whole slice and on its front.
 use mathlib.Core.Path.{◌≡◌, sym, ap, ◌∙◌}
 use mathlib.Core.Bool.{true, false}
 use mathlib.Core.List.{List, map}

@@ -1,4 +1,4 @@
--- The theorems over what the call answers and leaves (specs/compaction/Outcome). Assumes nothing.
+-- The theorems over what the call answers and leaves (specs/compaction/Outcome).
 use mathlib.Core.Path.{◌≡◌, refl, sym, ap, ◌∙◌}
 use mathlib.Core.List.{List}
 use Prim.Native.Nat.{ℕ, ◌*◌}

@@ -1,4 +1,4 @@
--- Where the reached records are moved, the areas are the same, the chains of productions too, and the others are renumbered. Assumes nothing.
+-- Where the reached records are moved, the areas are the same, the chains of productions too, and the others are renumbered.
 use mathlib.Core.Path.{◌≡◌}
 use mathlib.Core.Bool.{true, false, ◌&&◌}
 use mathlib.Core.List.{List, map}

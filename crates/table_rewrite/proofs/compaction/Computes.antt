@@ -1,4 +1,4 @@
--- The definitions compute: table B with two unreached records put in, 12 and 18 of 26, is compacted to table B and two records of 0. Assumes nothing.
+-- The definitions compute: table B with two unreached records put in, 12 and 18 of 26, is compacted to table B and two records of 0.
 use mathlib.Core.Path.{◌≡◌, refl}
 use mathlib.Core.List.{List, [], ◌∷◌, ◌++◌}
 use Prim.Native.Nat.{ℕ}

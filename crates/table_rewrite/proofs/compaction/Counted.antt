@@ -1,4 +1,4 @@
--- The answer is the number of records of the areas and of the loose records in use (specs/compaction/InUse). Assumes nothing.
+-- The answer is the number of records of the areas and of the loose records in use (specs/compaction/InUse).
 use mathlib.Core.Path.{◌≡◌, refl, sym, ap, ◌∙◌}
 use mathlib.Core.Bool.{Bool, true, ◌&&◌}
 use mathlib.Core.Logic.{inl, inr, ◌↔◌, ⊎_elim}

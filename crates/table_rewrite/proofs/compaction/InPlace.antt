@@ -1,5 +1,5 @@
 -- Moving in place: records are taken in ascending order and put at their new number, which is never larger than the old one, so nothing still to be read is lost;
--- then the heads follow and the end is freed. One law for each way through a turn of the loops; `compacted_by` joins the passes. Assumes nothing.
+-- then the heads follow and the end is freed. One law for each way through a turn of the loops; `compacted_by` joins the passes.
 use mathlib.Core.Path.{◌≡◌, refl, sym, ap, ◌∙◌}
 use mathlib.Core.Bool.{true, false}
 use mathlib.Core.List.{List, ◌++◌}

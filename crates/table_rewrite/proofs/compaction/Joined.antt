@@ -1,4 +1,4 @@
--- The passes of `compact` one after the other, over the areas that were read: what each asks, and what all leave. Assumes nothing.
+-- The passes of `compact` one after the other, over the areas that were read: what each asks, and what all leave.
 use mathlib.Core.Path.{◌≡◌, sym, ap, ◌∙◌}
 use mathlib.Core.List.{List}
 use Prim.Native.Nat.{ℕ, ◌*◌, ◌≤◌, ◌<◌}
@@ -13,8 +13,7 @@ use Rattle.table.specs.Checked.{Accepted}
 use Rattle.table.specs.Words.{word_at, records, state_area, production_area, loose}
 use Rattle.table.specs.Refusals.{check_of}
 use Rattle.table.specs.Quads.{Quad}
-use Rattle.table.proofs.Accepted.{Accepts, accepts, areas_of, rows_first}
-use Rattle.table_check.specs.Marks.{Sized}
+use Rattle.table.proofs.Accepted.{Accepts, accepts, areas_of}
 use Rattle.table_check.specs.Known.{AreasOf}
 use Rattle.table_check.specs.declared.areas.Areas.{Areas}
 use Rattle.table_rewrite.specs.compaction.Compaction.{count_of, compacted}

@@ -1,12 +1,12 @@
--- Where the reached records are moved, the meaning is the same. Assumes nothing.
+-- Where the reached records are moved, the meaning is the same.
 use mathlib.Core.Path.{◌≡◌, refl, sym, ap, ◌∙◌}
 use mathlib.Core.Bool.{Bool, true}
 use mathlib.Core.List.{List, [], ◌∷◌, ◌++◌, map}
 use Prim.Native.Nat.{ℕ, ◌+◌, ◌<◌}
 use native.Mathlib.Omega.{arith}
 use borrow.Author.Tests.{ltb-true}
-use Rattle.lr1_base.specs.repr.Lists.{below, mem, first?, joined}
-use Rattle.lr1_base.proofs.repr.Lists.{cases, mem-cons_here, mem-cons_there, mem_below, joined_cons}
+use Rattle.lr1_base.specs.repr.Lists.{below, mem, first?}
+use Rattle.lr1_base.proofs.repr.Lists.{cases, mem-cons_here, mem-cons_there, mem_below}
 use Rattle.lr1_base.proofs.repr.Tests.{some?-below, first?-yes, first?_no}
 use Rattle.table.specs.Words.{nonterminals, states, productions, production_area}
 use Rattle.table.specs.Decoded.{production_chain, symbol_chain, item_chain, edge_chain, symbol_at, item_at, edge_at, or_zero, owner_of, production_of, state_of, productions_of, meaning}

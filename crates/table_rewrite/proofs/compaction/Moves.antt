@@ -1,4 +1,4 @@
--- The reached records of an accepted table and their new numbers; what it is for a table u to be t with its reached records moved. Assumes nothing.
+-- The reached records of an accepted table and their new numbers; what it is for a table u to be t with its reached records moved.
 use mathlib.Core.Path.{◌≡◌, refl}
 use mathlib.Core.Bool.{Bool, true, false, ◌||◌}
 use mathlib.Core.List.{List}

@@ -1,9 +1,9 @@
 -- Marks and new numbers for all three kinds in one list: once the heads are marked, one ascending pass that marks the next of each marked record decides `reached`
--- and numbers it. One law for each way through a turn of the loops. Assumes nothing.
+-- and numbers it. One law for each way through a turn of the loops.
 use mathlib.Core.Path.{◌≡◌, refl, sym, ap, ◌∙◌}
 use mathlib.Core.Bool.{true, false}
 use mathlib.Core.List.{List}
-use Prim.Native.Nat.{ℕ, zero, suc, ◌+◌, ◌-◌, ◌≤◌, ◌<◌}
+use Prim.Native.Nat.{ℕ, zero, ◌+◌, ◌-◌, ◌≤◌, ◌<◌}
 use native.Mathlib.Omega.{arith}
 use native.Mathlib.Numerals.{add-one}
 use lib.ListN.{length, get_or, set, replicate, length-set}

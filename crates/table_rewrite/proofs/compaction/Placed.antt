@@ -1,4 +1,4 @@
--- The words of `compacted_to`: a front that has all reached records is t with its reached records moved. Assumes nothing.
+-- The words of `compacted_to`: a front that has all reached records is t with its reached records moved.
 use mathlib.Core.Path.{◌≡◌, refl, ap, ◌∙◌}
 use mathlib.Core.Bool.{true, false}
 use mathlib.Core.List.{List, ◌∷◌, map}

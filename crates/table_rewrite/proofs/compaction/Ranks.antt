@@ -1,4 +1,4 @@
--- How many pass a test below a number: ranks rise, and the rank of a number is its place among those that pass. Assumes nothing.
+-- How many pass a test below a number: ranks rise, and the rank of a number is its place among those that pass.
 use mathlib.Core.Path.{◌≡◌, refl, sym, ap, ◌∙◌}
 use mathlib.Core.Bool.{Bool, true, false}
 use mathlib.Core.List.{List, [], ◌∷◌, ◌++◌}

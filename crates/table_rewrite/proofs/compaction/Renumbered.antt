@@ -1,4 +1,4 @@
--- The key law: a renumbering that rises strictly on reached records and fixes 0 turns a chain into the renumbered chain. Assumes nothing.
+-- The key law: a renumbering that rises strictly on reached records and fixes 0 turns a chain into the renumbered chain.
 use mathlib.Core.Path.{◌≡◌, refl, sym, ap, ◌∙◌}
 use mathlib.Core.Bool.{true, false}
 use mathlib.Core.List.{List, ◌∷◌, map}

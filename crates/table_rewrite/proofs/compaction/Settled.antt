@@ -1,4 +1,4 @@
--- A table with no gaps stays as it is: its reached records are those from the end of the areas up to k, and all behind k is 0. Assumes nothing.
+-- A table with no gaps stays as it is: its reached records are those from the end of the areas up to k, and all behind k is 0.
 use mathlib.Core.Path.{◌≡◌, sym, ap, ◌∙◌}
 use mathlib.Core.Bool.{true, false}
 use mathlib.Core.List.{List}

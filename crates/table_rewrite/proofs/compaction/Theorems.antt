@@ -1,4 +1,4 @@
--- What taking back unused records keeps (Req 08): the whole slice, and its front of the records that are left, are accepted and mean the same. Assumes nothing.
+-- What taking back unused records keeps (docs/RULES.md, "Unused records"): the whole slice, and its front of the records that are left, are accepted and mean the same.
 use mathlib.Core.Path.{◌≡◌, ap, ◌∙◌}
 use mathlib.Core.List.{List}
 use Prim.Native.Nat.{ℕ, ◌*◌, ◌≤◌}

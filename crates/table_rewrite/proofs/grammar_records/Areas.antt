@@ -1,4 +1,4 @@
--- Laws of the writing of record 0, the nonterminals and the productions. Assumes nothing.
+-- Laws of the writing of record 0, the nonterminals and the productions.
 use mathlib.Core.Path.{◌≡◌, sym, ap, ◌∙◌}
 use mathlib.Core.List.{List}
 use Prim.Native.Nat.{ℕ, suc, ◌+◌, ◌*◌, ◌≤◌, ◌<◌}

@@ -1,4 +1,4 @@
--- The next production of a nonterminal, as its number and as its record. Assumes nothing.
+-- The next production of a nonterminal, as its number and as its record.
 use mathlib.Core.Bool.{Bool}
 use mathlib.Core.Path.{◌≡◌, refl, sym, ap, ◌∙◌}
 use mathlib.Core.List.{List, ◌∷◌}

@@ -1,4 +1,4 @@
--- What the packed productions of a table say of each production, and how many symbols they have. Assumes nothing.
+-- What the packed productions of a table say of each production, and how many symbols they have.
 use mathlib.Core.Path.{◌≡◌, refl, sym, ap, ◌∙◌}
 use mathlib.Core.List.{List, [], ◌∷◌, map}
 use Prim.Native.Nat.{ℕ, zero, suc, ◌+◌, ◌*◌, ◌≤◌, ◌<◌}
@@ -12,7 +12,7 @@ use Rattle.lr1_base.specs.repr.Lists.{up_from, below}
 use Rattle.std.specs.List.{range_with_len, sum_by}
 use Rattle.std.proofs.lemmas.List.Sums.{sum_by-cons}
 use native.Mathlib.Numerals.{add-one}
-use Rattle.lr1_base.proofs.repr.Lists.{length-map-below, get_d_map-below}
+use Rattle.lr1_base.proofs.repr.Lists.{get_d_map-below}
 use Rattle.lr1_base.proofs.repr.Parts.{symbols_long}
 use Rattle.table_rewrite.specs.spelling.Spelled.{place_of, size_of}
 use Rattle.table_rewrite.specs.grammar_records.Target.{PackedAs}

@@ -1,8 +1,8 @@
--- Laws of the writing of symbols from the packed productions: one production's, and all of them. Assumes nothing.
+-- Laws of the writing of symbols from the packed productions: one production's, and all of them.
 use mathlib.Core.Path.{◌≡◌, refl, sym, ap, ◌∙◌}
 use mathlib.Core.Bool.{true}
 use mathlib.Core.List.{List, [], ◌∷◌}
-use Prim.Native.Nat.{ℕ, zero, suc, ◌+◌, ◌-◌, ◌*◌, ◌/◌, ◌≤◌, ◌<◌}
+use Prim.Native.Nat.{ℕ, suc, ◌+◌, ◌-◌, ◌*◌, ◌/◌, ◌≤◌, ◌<◌}
 use native.Mathlib.Omega.{arith}
 use lib.ListN.{length, get_or, drop}
 use lib.Dec.{eqb, ltb}
@@ -18,7 +18,7 @@ use Rattle.lr1_base.specs.repr.Packed.{symbol_words}
 use Rattle.lr1_base.proofs.repr.Lists.{cases, length_mapped}
 use Rattle.lr1_base.proofs.repr.Listed.{fits_head, listed-none, listed-step, symbol_range}
 use Rattle.table.specs.Quads.{Quad, no_quad, put_quad}
-use Rattle.table_rewrite.specs.spelling.Spelled.{head_of, chain_from, place_of, symbol_lists, symbol_quad, kind_of, number_of, quads, symbols_at, items_place, records_of}
+use Rattle.table_rewrite.specs.spelling.Spelled.{head_of, chain_from, place_of, symbol_lists, symbol_quad, quads, symbols_at, items_place, records_of}
 use Rattle.table_rewrite.specs.spelling.Grown.{Grown, Room, Stands}
 use Rattle.table_rewrite.proofs.spelling.Laid.{stands_front, stands_back, length_chain_from}
 use Rattle.table_rewrite.proofs.spelling.Places.{begins, regions, symbol_list, symbols_stand, spell_next, spell_one, spell_two, spell_three}

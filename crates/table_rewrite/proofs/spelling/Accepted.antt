@@ -1,4 +1,4 @@
--- A spelling of at most 8,192 records is accepted. Assumes nothing.
+-- A spelling of at most 8,192 records is accepted.
 use mathlib.Core.Path.{◌≡◌, refl, sym, ap, ◌∙◌}
 use mathlib.Core.Bool.{Bool, true, false, ◌&&◌, ◌||◌, not}
 use mathlib.Core.List.{List}

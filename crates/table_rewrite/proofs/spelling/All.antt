@@ -1,4 +1,4 @@
--- Laws of the whole writer: all regions one after the other, and the three answers. Assumes nothing.
+-- Laws of the whole writer: all regions one after the other, and the three answers.
 use mathlib.Core.Path.{◌≡◌, sym, ap, ◌∙◌}
 use mathlib.Core.Bool.{false}
 use mathlib.Core.List.{List}

@@ -1,4 +1,4 @@
--- Laws of the writing of record 0 and the areas. Assumes nothing.
+-- Laws of the writing of record 0 and the areas.
 use mathlib.Core.Path.{◌≡◌, sym, ap, ◌∙◌}
 use mathlib.Core.List.{List, [], ◌∷◌, map}
 use Prim.Native.Nat.{ℕ, suc, ◌+◌, ◌*◌, ◌≤◌, ◌<◌, min}

@@ -1,4 +1,4 @@
--- The chains of a spelling: symbols, items and edges are consecutive, and a nonterminal's productions are those that it owns, ascending. Assumes nothing.
+-- The chains of a spelling: symbols, items and edges are consecutive, and a nonterminal's productions are those that it owns, ascending.
 use mathlib.Core.Path.{◌≡◌, refl, ap, ◌∙◌}
 use mathlib.Core.Bool.{true}
 use mathlib.Core.List.{List, [], ◌∷◌, map}

@@ -1,4 +1,4 @@
--- The definitions compute: table B is its own spelling. Assumes nothing.
+-- The definitions compute: table B is its own spelling.
 use mathlib.Core.Path.{◌≡◌, refl}
 use Rattle.lr1_base.specs.repr.Lists.{up_from, below, mem, first?, keep}
 use Rattle.lr1_base.specs.repr.Listed.{symbol_of_kind}

@@ -1,5 +1,5 @@
 -- Of an accepted table the spelling's areas lie where the table's do, and record 0, the nonterminals' heads and the productions' next indexes are the table's own words:
--- the code copies them and looks nothing up. Assumes nothing.
+-- the code copies them and looks nothing up.
 use mathlib.Core.Path.{◌≡◌, refl, sym, ap, ◌∙◌}
 use mathlib.Core.Bool.{Bool, true, false}
 use mathlib.Core.List.{List, [], ◌∷◌, ◌++◌, map, append_assoc}

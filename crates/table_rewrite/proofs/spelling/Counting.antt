@@ -1,4 +1,4 @@
--- Laws of the counting of chains up to a limit. Assumes nothing.
+-- Laws of the counting of chains up to a limit.
 use mathlib.Core.Path.{◌≡◌, sym, ap, ◌∙◌}
 use mathlib.Core.List.{List, [], ◌∷◌}
 use Prim.Native.Nat.{ℕ, ◌+◌, ◌-◌, ◌≤◌, ◌<◌, min}

@@ -1,4 +1,4 @@
--- Laws of the writer: a record put, parts written one after the other, all written. Assumes nothing.
+-- Laws of the writer: a record put, parts written one after the other, all written.
 use mathlib.Core.Path.{◌≡◌, refl, sym, ap, ◌∙◌}
 use mathlib.Core.List.{List, [], ◌∷◌, ◌++◌}
 use Prim.Native.Nat.{ℕ, zero, suc, ◌+◌, ◌-◌, ◌*◌, ◌<◌}

@@ -1,4 +1,4 @@
--- A record that is reached in a spelling: which element of which chain it is. And every index of a spelling keeps the rule. Assumes nothing.
+-- A record that is reached in a spelling: which element of which chain it is. And every index of a spelling keeps the rule.
 use mathlib.Core.Path.{◌≡◌, refl, sym, ap, ◌∙◌}
 use mathlib.Core.Bool.{true, false, not}
 use mathlib.Core.List.{List, [], ◌∷◌}

@@ -1,5 +1,4 @@
 -- Lists of records: where they stand in the words, and the key law: a chain that is laid consecutively reads back as its records, whatever stands before and after.
--- Assumes nothing.
 use mathlib.Core.Path.{◌≡◌, refl, ap, ◌∙◌}
 use mathlib.Core.List.{List, [], ◌∷◌, ◌++◌, map}
 use Prim.Native.Nat.{ℕ, zero, suc, ◌+◌, ◌≤◌, ◌<◌}

@@ -1,4 +1,4 @@
--- A spelling means what was spelled. Assumes nothing.
+-- A spelling means what was spelled.
 use mathlib.Core.Path.{◌≡◌, refl, sym, ap, ◌∙◌}
 use mathlib.Core.List.{List, [], ◌∷◌, map}
 use Prim.Native.Nat.{ℕ, ◌+◌, ◌-◌, ◌<◌}

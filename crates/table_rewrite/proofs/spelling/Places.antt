@@ -1,4 +1,4 @@
--- Which record stands where in a spelling, region by region, and so its words. Assumes nothing.
+-- Which record stands where in a spelling, region by region, and so its words.
 use mathlib.Core.Path.{◌≡◌, refl, ap, ◌∙◌}
 use mathlib.Core.List.{List, [], ◌∷◌, ◌++◌}
 use Prim.Native.Nat.{ℕ, ◌+◌, ◌*◌, ◌≤◌, ◌<◌}

@@ -1,4 +1,4 @@
--- A chain of an accepted table read record by record, whatever it holds: an index, the record there, the chain after it. Assumes nothing.
+-- A chain of an accepted table read record by record, whatever it holds: an index, the record there, the chain after it.
 use mathlib.Core.Path.{◌≡◌, refl}
 use mathlib.Core.Bool.{Bool, true, false, ◌||◌}
 use mathlib.Core.List.{List, [], ◌∷◌}

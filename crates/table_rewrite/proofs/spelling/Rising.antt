@@ -1,4 +1,4 @@
--- In an accepted table a nonterminal's list is its productions, ascending: a chain ascends, and an ascending list is known by its members. Assumes nothing.
+-- In an accepted table a nonterminal's list is its productions, ascending: a chain ascends, and an ascending list is known by its members.
 use mathlib.Core.Path.{◌≡◌, refl, sym, ap, ◌∙◌}
 use mathlib.Core.Bool.{Bool, true, false}
 use mathlib.Core.List.{List, [], ◌∷◌, map}

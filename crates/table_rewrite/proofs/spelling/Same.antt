@@ -1,4 +1,4 @@
--- What Req 02 promises of the spelling: tables of equal meaning are spelled alike and others never, and spelling again changes nothing. Assumes nothing.
+-- What the spelling promises (docs/RULES.md, "One spelling"): tables of equal meaning are spelled alike and others never, and spelling again changes nothing.
 use mathlib.Core.Path.{◌≡◌, sym, ap, ◌∙◌}
 use mathlib.Core.List.{List, []}
 use mathlib.Core.Logic.{◌↔◌}
@@ -42,7 +42,7 @@ is_same T U e = record {
   states = ap (λ (X : Table). X.states) e;
 }
 
--- other states under the same grammar leave the order (for Req 01)
+-- other states under the same grammar leave the order (for building states)
 pub ordered_parts : (T U : Table) → T.nonterminals ≡ U.nonterminals → T.productions ≡ U.productions → Ordered T → Ordered U
 ordered_parts T U a b O = record {
   lists = λ n h. ap (λ (l : List (List ℕ)). get_or l n []) (sym a) ∙ O.lists n (rw a h) ∙ owned_same T U n b;

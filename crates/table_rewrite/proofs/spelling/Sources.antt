@@ -1,6 +1,6 @@
--- The three regions of a spelling are chains of the table's own records, each with another next index: so one function writes them all. Assumes nothing.
+-- The three regions of a spelling are chains of the table's own records, each with another next index: so one function writes them all.
 use mathlib.Core.Path.{◌≡◌, refl, sym, ap, ◌∙◌}
-use mathlib.Core.Bool.{Bool, true, false, ◌&&◌, ◌||◌}
+use mathlib.Core.Bool.{true, ◌&&◌, ◌||◌}
 use mathlib.Core.List.{List, [], ◌∷◌, map}
 use Prim.Native.Nat.{ℕ, zero, suc, ◌+◌, ◌-◌, ◌≤◌, ◌<◌}
 use native.Mathlib.Omega.{arith}
@@ -10,7 +10,7 @@ use borrow.Author.Tests.{eqb-true, not-false}
 use Rattle.lr1_base.specs.repr.Lists.{up_from, mem}
 use Rattle.lr1_base.specs.repr.Meaning.{State, Production}
 use Rattle.lr1_base.specs.repr.Listed.{symbol_of_kind, symbol_is_fit}
-use Rattle.lr1_base.proofs.repr.Lists.{clash, length_mapped, length-up_from, get_d_up_from, get_d_map, mem-cons_here, mem-cons_there}
+use Rattle.lr1_base.proofs.repr.Lists.{length_mapped, length-up_from, get_d_up_from, get_d_map, mem-cons_here, mem-cons_there}
 use Rattle.table.specs.Checked.{Accepted}
 use Rattle.table.specs.Words.{word_at, records, states, productions, state_area, production_area, loose, loose_records}
 use Rattle.table.specs.Decoded.{symbol_chain, item_chain, edge_chain, symbol_at, item_at, edge_at, state_of, meaning}

@@ -1,4 +1,4 @@
--- Laws of the writing of a chain record by record, and of chains one behind the other. Assumes nothing.
+-- Laws of the writing of a chain record by record, and of chains one behind the other.
 use mathlib.Core.Path.{◌≡◌, refl, sym, ap, ◌∙◌}
 use mathlib.Core.List.{List, ◌∷◌}
 use Prim.Native.Nat.{ℕ, suc, ◌+◌, ◌*◌, ◌≤◌, ◌<◌}

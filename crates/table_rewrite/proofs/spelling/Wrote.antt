@@ -1,4 +1,4 @@
--- What `respell_of` of specs/spelling/Outcome promises: when it writes, that what it writes is accepted and written again as it is, equal words for equal meaning only. Assumes nothing.
+-- What `respell_of` of specs/spelling/Outcome promises: when it writes, that what it writes is accepted and written again as it is, equal words for equal meaning only.
 use mathlib.Core.Path.{◌≡◌, refl, sym, ap, ◌∙◌}
 use mathlib.Core.Bool.{true, false}
 use mathlib.Core.List.{List, ◌++◌}

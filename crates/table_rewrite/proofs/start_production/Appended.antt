@@ -1,4 +1,4 @@
--- A production put behind the packed ones. Assumes nothing.
+-- A production put behind the packed ones.
 use mathlib.Core.Path.{◌≡◌, refl, sym, ap, ◌∙◌, subst}
 use mathlib.Core.Bool.{true}
 use mathlib.Core.List.{List, [], ◌∷◌, ◌++◌}

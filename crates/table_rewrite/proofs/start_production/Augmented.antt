@@ -1,4 +1,4 @@
--- The grammar with a start production added: its numbers are in range and those of the old one stay. Assumes nothing.
+-- The grammar with a start production added: its numbers are in range and those of the old one stay.
 use mathlib.Core.Path.{◌≡◌, refl, sym, ap, ◌∙◌, subst}
 use mathlib.Core.Bool.{Bool, false, ◌||◌}
 use mathlib.Core.List.{List, [], ◌∷◌, ◌++◌, append-nil}

@@ -1,6 +1,6 @@
--- What is written with a start production is accepted, means what was to be written and is its own spelling; no number moved. Assumes nothing.
+-- What is written with a start production is accepted, means what was to be written and is its own spelling; no number moved.
 use mathlib.Core.Path.{◌≡◌, refl, sym, ap, ◌∙◌}
-use mathlib.Core.Bool.{Bool, true, false, not, ◌||◌, ◌&&◌}
+use mathlib.Core.Bool.{true, false, not, ◌||◌, ◌&&◌}
 use mathlib.Core.Logic.{inl, inr}
 use mathlib.Core.List.{List, [], ◌∷◌}
 use Prim.Native.Nat.{ℕ, ◌/◌, ◌≤◌, ◌<◌}

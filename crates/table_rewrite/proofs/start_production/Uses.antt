@@ -1,4 +1,4 @@
--- Laws of the search for a nonterminal in right sides. Assumes nothing.
+-- Laws of the search for a nonterminal in right sides.
 use Rattle.std.proofs.Common.{◌≡◌, ℕ, zero, suc, Bool, ◌||◌, eqb, List, [], ◌∷◌, map, sym, refl, ap, ◌∙◌, add-one}
 use Rattle.std.specs.List.{list_any, range_with_len}
 use Rattle.lr1_base.specs.repr.Lists.{up_from, below, some?}

@@ -1,4 +1,4 @@
--- Is a start production wanted: what the first two productions of a nonterminal say of all. Assumes nothing.
+-- Is a start production wanted: what the first two productions of a nonterminal say of all.
 use mathlib.Core.Path.{◌≡◌, refl, sym, ap, ◌∙◌}
 use mathlib.Core.Bool.{Bool, true, false, not, ◌||◌}
 use mathlib.Core.List.{List, [], ◌∷◌}

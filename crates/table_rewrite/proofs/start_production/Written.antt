@@ -1,4 +1,4 @@
--- Laws of the writing of a grammar alone. Assumes nothing.
+-- Laws of the writing of a grammar alone.
 use mathlib.Core.Path.{◌≡◌, refl, sym, ap, ◌∙◌}
 use mathlib.Core.List.{List, [], ◌∷◌, map}
 use Prim.Native.Nat.{ℕ, ◌+◌, ◌*◌, ◌/◌, ◌≤◌, ◌<◌}

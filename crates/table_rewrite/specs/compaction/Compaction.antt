@@ -1,5 +1,4 @@
--- A table with its unused records taken back (Req 08): the loose records that a chain reaches move down, in their present order, and indexes follow.
--- Assumes nothing: these are definitions.
+-- A table with its unused records taken back (docs/RULES.md, "Unused records"): the loose records that a chain reaches move down, in their present order, and indexes follow.
 use Rattle.std.specs.Prelude.{ℕ, ◌+◌, ◌-◌, Bool, true, false, ◌||◌, List, map, length, get_or, eqb, ltb, leb}
 use Rattle.lr1_base.specs.repr.Lists.{below, keep}
 use Rattle.table.specs.Words.{word_at, records, state_area, loose}

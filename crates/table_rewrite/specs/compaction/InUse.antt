@@ -1,4 +1,4 @@
--- The loose records that a table uses, as the paper says it: those that a chain of symbols, items or edges holds. Assumes nothing: these are definitions.
+-- The loose records that a table uses, as docs/RULES.md, "Unused records", says it: those that a chain of symbols, items or edges holds.
 use Rattle.std.specs.Prelude.{ℕ, ◌<◌, true, ◌⊎◌, ◌↔◌, ◌≡◌, List, length, get_or}
 use Rattle.lr1_base.specs.repr.Lists.{mem}
 use Rattle.table.specs.Words.{states, productions, state_area, production_area}

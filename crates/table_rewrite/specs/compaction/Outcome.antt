@@ -1,4 +1,4 @@
--- What `compact` answers and leaves in the lent words (Req 08), for every slice. Assumes nothing: these are definitions.
+-- What `compact` answers and leaves in the lent words (docs/RULES.md, "Unused records"), for every slice.
 use Rattle.std.specs.Prelude.{ℕ, List}
 use Rattle.lr1_base.specs.repr.Reply.{Reply, answered, refused}
 use Rattle.table.specs.Checked.{Accepted, Refused}

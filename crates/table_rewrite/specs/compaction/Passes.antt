@@ -1,4 +1,4 @@
--- What the passes of `compact` hold and leave: marks, new numbers, records moved in place, heads that follow, the freed end. Assumes nothing: these are definitions.
+-- What the passes of `compact` hold and leave: marks, new numbers, records moved in place, heads that follow, the freed end.
 use Rattle.std.specs.Prelude.{ℕ, ◌+◌, ◌≤◌, ◌<◌, true, false, ◌≡◌, List, length, get_or}
 use Rattle.lr1_base.specs.repr.Sizes.{record_limit}
 use Rattle.table.specs.Words.{word_at, state_area, production_area, loose}

@@ -1,4 +1,4 @@
--- The table that is to be written, and what its grammar is written from: its counts and packed productions. Assumes nothing: these are definitions.
+-- The table that is to be written, and what its grammar is written from: its counts and packed productions.
 use Rattle.std.specs.Prelude.{ℕ, ◌-◌, ◌<◌, ◌≡◌, List, length, get_or, eqb}
 use Rattle.std.proofs.Math.Option.{Option, none, some}
 use Rattle.lr1_base.specs.repr.Lists.{up_from, first?}

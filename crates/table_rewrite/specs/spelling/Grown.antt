@@ -1,11 +1,10 @@
--- What the parts of the writer read and leave: chains as the table's records hold them; g are the output's words before and g' after. Assumes nothing: these are definitions.
-use Rattle.std.specs.Prelude.{ℕ, suc, ◌+◌, ◌-◌, ◌*◌, ◌≤◌, ◌<◌, min, Bool, true, ◌||◌, ◌≡◌, List, map, length, get_or}
+-- What the parts of the writer read and leave: chains as the table's records hold them; g are the output's words before and g' after.
+use Rattle.std.specs.Prelude.{ℕ, suc, ◌+◌, ◌-◌, ◌*◌, ◌≤◌, ◌<◌, min, true, ◌||◌, ◌≡◌, List, map, length, get_or}
 use Rattle.lr1_base.specs.repr.Sizes.{record_limit}
 use Rattle.lr1_base.specs.repr.Lists.{up_from}
 use Rattle.lr1_base.specs.repr.Meaning.{Table}
 use Rattle.table.specs.Quads.{Quad, no_quad}
 use Rattle.table.specs.Words.{word_at, records, loose_records, chain}
-use Rattle.table.specs.Refusals.{as_symbol, as_item, as_edge}
 use Rattle.table_rewrite.specs.spelling.Spelled.{symbols_at, items_place, edges_at, records_of, spell}
 use Rattle.table_rewrite.specs.compaction.Compaction.{reached}
 

@@ -1,4 +1,4 @@
--- What `respell` answers and leaves in the lent words (Req 02), for every table and every output. Assumes nothing: these are definitions.
+-- What `respell` answers and leaves in the lent words (docs/RULES.md, "One spelling"), for every table and every output.
 use Rattle.std.specs.Prelude.{ℕ, ◌/◌, Bool, true, false, ◌&&◌, List, length, leb}
 use Rattle.lr1_base.specs.repr.Reply.{Reply, answered, refused}
 use Rattle.lr1_base.specs.repr.Sizes.{record_limit}

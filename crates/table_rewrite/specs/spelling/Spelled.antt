@@ -1,5 +1,4 @@
--- The single spelling of a table (Req 02): what a table means, written as words. Records are made first, by regions, and then written out.
--- Assumes nothing: these are definitions.
+-- The single spelling of a table (docs/RULES.md, "One spelling"): what a table means, written as words. Records are made first, by regions, and then written out.
 use Rattle.std.specs.Prelude.{ℕ, zero, suc, ◌+◌, ◌-◌, ◌<◌, Bool, ◌≡◌, List, [], ◌∷◌, ◌++◌, map, length, get_or, eqb}
 use Rattle.std.proofs.Math.Option.{Option, none, some}
 use Rattle.lr1_base.specs.repr.Lists.{up_from, below, keep, first?}
@@ -144,7 +143,7 @@ spell T = words (quads T)
 pub record Ordered (T : Table) : Type 0 where
   pub lists : (n : ℕ) → n < length T.nonterminals → get_or T.nonterminals n [] ≡ keep (owns T n) (below (length T.productions))
 
--- Req 02's "the same counts, productions, spans, items in order and edges in order"; the numbers of states and productions are their lists' lengths.
+-- "The same counts, productions, spans, items in order and edges in order" (docs/RULES.md, "One spelling"); the numbers of states and productions are their lists' lengths.
 -- A production holds its nonterminal, symbols and span, a state its items and edges
 pub record SameTable (T U : Table) : Type 0 where
   pub nonterminals : length T.nonterminals ≡ length U.nonterminals

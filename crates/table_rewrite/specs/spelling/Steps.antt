@@ -1,4 +1,4 @@
--- A step of the iterator over a chain of loose records: it reads the record that it is at and goes on to the next, and at 0 it ends. Assumes nothing: these are definitions.
+-- A step of the iterator over a chain of loose records: it reads the record that it is at and goes on to the next, and at 0 it ends.
 use Rattle.std.specs.Prelude.{Option, MatchOption, ◌≡◌, ◌≢◌}
 use Rattle.table.specs.Words.{word_at}
 use Rattle.table_rewrite.specs.declared.spelling.chain.LooseRecord.{LooseRecord}

@@ -1,6 +1,4 @@
--- A start production for a grammar (Req 09, program yacc): "where the start nonterminal has more than one production or stands in a right side, a proved
--- function adds one nonterminal and one production behind all others, so that no number moves; it fails only for room (2)".
--- Assumes nothing: these are definitions.
+-- A start production for a grammar (docs/YACC.md, "The start production"): where the start nonterminal has more than one production or stands in a right side, one nonterminal and one production are added behind all others. No number moves, and only a lack of numbers (2) or of room (17) refuses.
 use Rattle.std.specs.Prelude.{ℕ, ◌/◌, ◌<◌, Bool, true, false, not, ◌||◌, ◌≡◌, ◌⊎◌, List, [], ◌∷◌, ◌++◌, length, get_or, eqb, leb}
 use Rattle.lr1_base.specs.words.Lent.{in_front}
 use Rattle.lr1_base.specs.repr.Reply.{Reply, answered, refused}

@@ -1,4 +1,4 @@
--- What an answer tells where it is one of the two: of the edges that were added, or of one too many. Assumes nothing.
+-- What an answer tells where it is one of the two: of the edges that were added, or of one too many.
 use Rattle.std.specs.Prelude.{Result, Ok, Err, OnOk, OnErr}
 use Prim.{tt}
 

@@ -1,4 +1,4 @@
--- An edge added to a trace's edges in words (specs/edge_codes/Coded). A fact that has to do with `TableFits` takes it first. Assumes nothing.
+-- An edge added to a trace's edges in words (specs/edge_codes/Coded). A fact that has to do with `TableFits` takes it first.
 use Rattle.std.proofs.Common.{◌≡◌, ℕ, ◌+◌, ◌*◌, ◌/◌, ◌<◌, ◌≤◌, true, false, eqb, ltb, List, [], ◌∷◌, ◌++◌, length, get_or, set, replicate, sym, refl, ap, ◌∙◌, arith, length-append, length-set, get_or-set_other, get_or-set_same, get_or-append-add, ltb-false, ltb-true, eqb-true}
 use mathlib.Core.Bool.{or-false, or-true}
 use lib.ListN.{get_or-append}

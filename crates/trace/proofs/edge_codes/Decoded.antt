@@ -1,4 +1,4 @@
--- An edge from its word. Assumes nothing.
+-- An edge from its word.
 use Rattle.std.proofs.Common.{◌≡◌, ℕ, zero, suc, ◌*◌, ◌/◌, ◌%◌, ◌<◌, true, ltb, List, [], ◌∷◌, length, get_or, drop, sym, refl, ap, ◌∙◌, true≢false, arith, ltb-false, ltb-true, eqb-true}
 use mathlib.Core.Option.{some}
 use Rattle.lr1_base.specs.repr.Meaning.{Symbol, Item, Production, no_production, Table, ItemFits, production_at}

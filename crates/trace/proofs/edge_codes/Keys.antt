@@ -1,4 +1,4 @@
--- Every edge that tracing adds is `edge_of` of its code (`code_edge`), and two such edges are the same exactly if their keys are equal (`same_key`). Assumes nothing.
+-- Every edge that tracing adds is `edge_of` of its code (`code_edge`), and two such edges are the same exactly if their keys are equal (`same_key`).
 use Rattle.std.proofs.Common.{◌≡◌, ℕ, ◌+◌, ◌*◌, ◌/◌, ◌%◌, ◌<◌, Bool, true, eqb, List, [], ◌∷◌, length, get_or, sym, refl, ap, ◌∙◌, true≢false, arith, eq-eqb, ne_eqb, eqb-true}
 use mathlib.Core.Option.{Option, none, some}
 use borrow.Author.Tests.{eqb-false}

@@ -1,4 +1,4 @@
--- The word and the key of an edge from its kind and label (specs/edge_codes/Kinds). Assumes nothing.
+-- The word and the key of an edge from its kind and label (specs/edge_codes/Kinds).
 use Rattle.std.proofs.Common.{◌≡◌, ℕ, ◌+◌, ◌*◌, ◌⊎◌, inl, inr, sym, refl, ap, ◌∙◌, arith}
 use Rattle.lr1_base.specs.repr.Meaning.{Table, TableFits}
 use Rattle.trace_graph.specs.Graph.{TraceEdge}

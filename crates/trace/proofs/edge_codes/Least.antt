@@ -1,12 +1,12 @@
--- The least equal production as the code finds it. Assumes nothing.
+-- The least equal production as the code finds it.
 use Rattle.std.proofs.Common.{◌≡◌, ℕ, ◌+◌, ◌*◌, ◌<◌, ◌≤◌, true, false, eqb, List, length, get_or, set, replicate, sym, ap, ◌∙◌, arith, length-set, get_or-set_other, get_or-set_same, lt-ltb, eq-eqb, ne_eqb, eqb-true, le-leb}
 use Rattle.std.specs.Prelude.{Option, Some, None, MatchOption}
 use Rattle.std.specs.Option.{unwrap_or}
 use lib.ListN.{length-replicate}
 use borrow.Author.Tests.{eqb-false}
 use Rattle.lr1_base.specs.repr.Meaning.{Production, no_production}
-use Rattle.lr1_base.specs.repr.Packed.{production_in, productions_in}
-use Rattle.lr1_base.proofs.repr.Lists.{cases, length-map-below}
+use Rattle.lr1_base.specs.repr.Packed.{productions_in}
+use Rattle.lr1_base.proofs.repr.Lists.{cases}
 use Rattle.lr1_base.proofs.repr.Tests.{first?-below_intro}
 use Rattle.table.specs.Decoded.{or_zero}
 use Rattle.trace_graph.specs.Graph.{label_of, same_sets}

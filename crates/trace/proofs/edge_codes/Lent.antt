@@ -1,4 +1,4 @@
--- Edges that stay over the words lent from one step to the next: the two names of each (specs/edge_codes/Lent). Assumes nothing.
+-- Edges that stay over the words lent from one step to the next: the two names of each (specs/edge_codes/Lent).
 use Rattle.std.proofs.Common.{◌≡◌, ℕ, ◌∙◌, List}
 use Rattle.lr1_base.specs.repr.Meaning.{Table}
 use Rattle.trace_graph.specs.Graph.{TraceEdge}

@@ -1,4 +1,4 @@
--- The edges of the words, put into a graph one after the other. Assumes nothing.
+-- The edges of the words, put into a graph one after the other.
 use Rattle.std.proofs.Common.{◌≡◌, ℕ, suc, ◌+◌, ◌*◌, ◌<◌, ◌≤◌, List, [], ◌∷◌, ◌++◌, length, get_or, take, drop, set, sym, refl, ap, ◌∙◌, arith, length-drop, length-set, length-take-le, take-suc, drop-drop}
 use lib.Seq.{take-length}
 use Rattle.lr1_base.specs.repr.Lists.{joined}

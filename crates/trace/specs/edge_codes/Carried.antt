@@ -1,4 +1,4 @@
--- Words that hold a trace's edges, one word each, beside the productions that they are of. Assumes nothing: these are definitions.
+-- Words that hold a trace's edges, one word each, beside the productions that they are of.
 use Rattle.std.specs.Prelude.{◌≡◌, ℕ, ◌+◌, ◌<◌, ◌≤◌, List, length, get_or, slice_index, slice_index_or}
 use Rattle.lr1_base.specs.repr.Sizes.{edge_limit}
 use Rattle.lr1_base.specs.repr.Meaning.{Table, TableFits, All}

@@ -1,9 +1,9 @@
--- A trace's edges in words as the code keeps them: a count, and then one word an edge in the order added; and a flag for each key that an edge has. Assumes nothing: these are definitions.
+-- A trace's edges in words as the code keeps them: a count, and then one word an edge in the order added; and a flag for each key that an edge has.
 use Rattle.std.specs.Prelude.{◌≡◌, ℕ, ◌+◌, ◌<◌, ◌≤◌, List, length, get_or, nat_eq, slice_index, slice_index_or}
 use Rattle.lr1_base.specs.repr.Sizes.{production_limit, edge_limit}
 use Rattle.lr1_base.specs.repr.Lists.{some?}
 use Rattle.lr1_base.specs.repr.Meaning.{Production, Table, All}
-use Rattle.trace_graph.specs.Graph.{at_nonterminal, TraceEdge, no_edge}
+use Rattle.trace_graph.specs.Graph.{TraceEdge, no_edge}
 use Rattle.trace.specs.Sound.{EdgeSound}
 use Rattle.lr1_base.specs.bits.Bits.{bit_at}
 use Rattle.trace.specs.edge_codes.Codes.{code_limit, code_of, least_alike, key_of}

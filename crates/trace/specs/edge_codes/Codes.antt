@@ -1,5 +1,5 @@
 -- An edge of a trace in one word: kind * item_limit + production * index_limit + index, production and index the label's. Kind 0: from a nonterminal into an item; 1: from a nonterminal into a nonterminal;
--- 2: from an item into a nonterminal. Assumes nothing: these are definitions.
+-- 2: from an item into a nonterminal.
 use Rattle.std.specs.Prelude.{ℕ, zero, suc, ◌+◌, ◌*◌, ◌/◌, ◌%◌, Bool, true, false, ◌&&◌, List, length, ◌==◌, slice_index_or}
 use Rattle.std.proofs.Math.Option.{Option, none, some}
 use Rattle.lr1_base.specs.repr.Sizes.{index_limit, item_limit}

@@ -1,4 +1,4 @@
--- The code's `EdgeKind` and `EdgeCode`: the numbers of the kinds, and of which edge one is. Assumes nothing: these are definitions.
+-- The code's `EdgeKind` and `EdgeCode`: the numbers of the kinds, and of which edge one is.
 use Rattle.std.specs.Prelude.{◌≡◌, ℕ, Bool, true, false}
 use Rattle.trace_graph.specs.Graph.{TraceEdge}
 use Rattle.trace.specs.edge_codes.Codes.{kind_of}

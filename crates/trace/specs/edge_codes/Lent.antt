@@ -1,4 +1,4 @@
--- That a trace's edges which were lent for writing are over the words that they were over: what is said of those then is said of the words lent. Assumes nothing: these are definitions.
+-- That a trace's edges which were lent for writing are over the words that they were over: what is said of those then is said of the words lent.
 use Rattle.std.specs.Prelude.{◌≡◌}
 use Rattle.trace.specs.declared.edge_codes.EdgeCodes.{EdgeCodes}
 

@@ -1,4 +1,4 @@
--- The tally of a text is the counts of its alternatives; the loop's turns. Assumes nothing.
+-- The tally of a text is the counts of its alternatives; the loop's turns.
 use Prim.Native.Nat.{ℕ, suc, ◌+◌, ◌≤◌, ◌<◌}
 use native.Mathlib.Omega.{arith}
 use native.Mathlib.Numerals.{add-one}

@@ -1,4 +1,4 @@
--- Refusals 2, 5 and 17 by the counts of a text. Assumes nothing.
+-- Refusals 2, 5 and 17 by the counts of a text.
 use Prim.Native.Nat.{ℕ, suc, ◌+◌, ◌*◌, ◌/◌, ◌≤◌, ◌<◌}
 use native.Mathlib.Omega.{arith}
 use mathlib.Core.Bool.{Bool, true, false, ◌&&◌, ◌||◌}

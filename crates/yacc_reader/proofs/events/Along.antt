@@ -1,4 +1,4 @@
--- Calls that go through the words of a text until one passes a test: what holds in front of the first word, and is kept by each that does not pass, holds where they stop. Assumes nothing.
+-- Calls that go through the words of a text until one passes a test: what holds in front of the first word, and is kept by each that does not pass, holds where they stop.
 use Prim.Native.Nat.{ℕ, ◌≤◌}
 use lib.ListN.{length}
 use mathlib.Core.Bool.{Bool, true, false}

@@ -1,4 +1,4 @@
--- Two names are the same if their bytes are, as they stand in the text. Assumes nothing.
+-- Two names are the same if their bytes are, as they stand in the text.
 use Prim.Native.Nat.{ℕ, suc, ◌+◌, ◌-◌, ◌≤◌, ◌<◌}
 use native.Mathlib.Omega.{arith}
 use native.Mathlib.Numerals.{add-one}

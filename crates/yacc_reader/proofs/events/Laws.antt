@@ -1,4 +1,4 @@
--- What a word says is its event; the turns of a loop over the tokens; what a text says whole. Assumes nothing.
+-- What a word says is its event; the turns of a loop over the tokens; what a text says whole.
 use Prim.Native.Nat.{ℕ}
 use mathlib.Core.Bool.{true, false}
 use mathlib.Core.Path.{◌≡◌, refl, sym, ap, ◌∙◌, subst}

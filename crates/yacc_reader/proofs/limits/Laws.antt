@@ -1,4 +1,4 @@
--- The ways through `check_counts`. Assumes nothing.
+-- The ways through `check_counts`.
 use Prim.Native.Nat.{ℕ, ◌+◌, ◌*◌, ◌/◌, ◌≤◌, ◌<◌}
 use native.Mathlib.Omega.{arith}
 use mathlib.Core.Bool.{true, false}

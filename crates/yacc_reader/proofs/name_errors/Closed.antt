@@ -1,4 +1,4 @@
--- The other way round: a token at fault makes a text of the grammar misnamed, since each of its bodies ends. Assumes nothing.
+-- The other way round: a token at fault makes a text of the grammar misnamed, since each of its bodies ends.
 use Prim.Native.Nat.{ℕ}
 use mathlib.Core.Bool.{Bool, true, false, ◌&&◌, ◌||◌, not, or-true}
 use mathlib.Core.Path.{◌≡◌, refl, sym, ap, ◌∙◌}

@@ -1,4 +1,4 @@
--- 21 has a token at fault; the turns of the loop that looks for it. Assumes nothing.
+-- 21 has a token at fault; the turns of the loop that looks for it.
 use Prim.Native.Nat.{ℕ}
 use mathlib.Core.Bool.{Bool, true, false, ◌||◌, not, or-false}
 use mathlib.Core.Path.{◌≡◌, refl, sym, ap, ◌∙◌}

@@ -1,4 +1,4 @@
--- An id looked up is known exactly if its word is not 0; ids that are known in two lists; words that are ids. Assumes nothing.
+-- An id looked up is known exactly if its word is not 0; ids that are known in two lists; words that are ids.
 use Prim.Native.Nat.{ℕ, suc}
 use native.Mathlib.Omega.{arith}
 use mathlib.Core.Bool.{Bool, true, false, ◌&&◌, ◌||◌, not}

@@ -1,4 +1,4 @@
--- The parts of 21, each by itself: an id of a body that is nowhere is found from all that is said, a left side that is a token by the words of the names, a START id on no left side by the START ids. Assumes nothing.
+-- The parts of 21, each by itself: an id of a body that is nowhere is found from all that is said, a left side that is a token by the words of the names, a START id on no left side by the START ids.
 use Prim.Native.Nat.{ℕ, ◌+◌, ◌-◌, ◌<◌}
 use native.Mathlib.Omega.{arith}
 use mathlib.Core.Bool.{Bool, true, false, ◌&&◌, ◌||◌, not, or-false, or_assoc}

@@ -1,4 +1,4 @@
--- The turns of the loops over bytes and over a bucket's chain; a name entered. Assumes nothing.
+-- The turns of the loops over bytes and over a bucket's chain; a name entered.
 use Prim.Native.Nat.{ℕ, zero, suc, ◌+◌, ◌-◌, ◌*◌, ◌%◌, ◌≤◌, ◌<◌, min}
 use native.Mathlib.Omega.{arith}
 use mathlib.Core.Bool.{Bool, true, false, ◌&&◌}
@@ -7,7 +7,6 @@ use mathlib.Core.List.{List, [], ◌∷◌}
 use lib.ListN.{length, get_or, set, take, drop, length-set, drop_of_length-le}
 use lib.Seq.{slice, length-take-le, get_or-set_same, get_or-set_other}
 use lib.Dec.{eqb, leb}
-use lib.Pointwise.{pointwise}
 use Rattle.std.specs.List.{fold}
 use Rattle.std.proofs.lemmas.List.{drop-take}
 use borrow.Author.Tests.{eqb-true, eqb-false, eq-eqb, leb-true, leb-false}

@@ -1,4 +1,4 @@
--- An id that is entered gets the next number, and every other keeps its own. Assumes nothing.
+-- An id that is entered gets the next number, and every other keeps its own.
 use Prim.Native.Nat.{ℕ, suc, ◌+◌, ◌<◌}
 use native.Mathlib.Omega.{arith}
 use native.Mathlib.Numerals.{add-one}

@@ -1,4 +1,4 @@
--- Texts read by the definition: the marked ones, and one for each refusal. Assumes nothing.
+-- Texts read by the definition: the marked ones, and one for each refusal.
 use mathlib.Core.Path.{◌≡◌, refl}
 use Prim.Native.Nat.{ℕ}
 use mathlib.Core.List.{List, [], ◌∷◌, map}

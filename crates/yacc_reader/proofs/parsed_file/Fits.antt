@@ -1,4 +1,4 @@
--- What the refusals leave of a text is a table whose numbers are in range: its spelling is accepted and means it again. Assumes nothing.
+-- What the refusals leave of a text is a table whose numbers are in range: its spelling is accepted and means it again.
 use Prim.Native.Nat.{ℕ, suc, ◌+◌, ◌*◌, ◌≤◌}
 use native.Mathlib.Omega.{arith}
 use mathlib.Core.Bool.{Bool, true, false, ◌&&◌, ◌||◌, not}

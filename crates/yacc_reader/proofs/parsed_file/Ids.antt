@@ -1,4 +1,4 @@
--- Numbering looks at ids alone, not at their places. Assumes nothing.
+-- Numbering looks at ids alone, not at their places.
 use Prim.Native.Nat.{ℕ, suc}
 use mathlib.Core.Bool.{Bool, true, false}
 use mathlib.Core.Path.{◌≡◌, refl, sym, ap, ◌∙◌}

@@ -1,4 +1,4 @@
--- Ids that are known, and their numbers. Assumes nothing.
+-- Ids that are known, and their numbers.
 use Prim.Native.Nat.{ℕ, suc, ◌<◌}
 use native.Mathlib.Omega.{arith}
 use mathlib.Core.Bool.{Bool, true, false, ◌&&◌, ◌||◌, or-false, true≢false}

@@ -1,4 +1,4 @@
--- Of the call itself: what a text that is read leaves is accepted, means the file's productions and one empty state, and is its own spelling. Assumes nothing.
+-- Of the call itself: what a text that is read leaves is accepted, means the file's productions and one empty state, and is its own spelling.
 use Prim.Native.Nat.{ℕ, ◌*◌, ◌≤◌}
 use native.Mathlib.Omega.{arith}
 use mathlib.Core.Bool.{true, false}

@@ -1,4 +1,4 @@
--- What the tokens of a file say, without places, is what the file says: its alternatives are the file's. Assumes nothing.
+-- What the tokens of a file say, without places, is what the file says: its alternatives are the file's.
 use Prim.Native.Nat.{ℕ, ◌≤◌}
 use native.Mathlib.Omega.{arith}
 use mathlib.Core.Bool.{Bool, true, false}

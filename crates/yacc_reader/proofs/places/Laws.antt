@@ -1,4 +1,4 @@
--- A number in a list of those known is kept by what follows, so places are written in the order of their numbers. Assumes nothing.
+-- A number in a list of those known is kept by what follows, so places are written in the order of their numbers.
 use Prim.Native.Nat.{ℕ, suc, ◌+◌, ◌-◌, ◌≤◌, ◌<◌}
 use native.Mathlib.Omega.{arith}
 use mathlib.Core.Bool.{Bool, true, false, ◌||◌}

@@ -1,4 +1,4 @@
--- The loop's turns: before each token the closed alternatives stand packed, in the end all. Assumes nothing.
+-- The loop's turns: before each token the closed alternatives stand packed, in the end all.
 use Prim.Native.Nat.{ℕ, suc, ◌+◌, ◌*◌, ◌≤◌, ◌<◌}
 use native.Mathlib.Omega.{arith}
 use mathlib.Core.Bool.{Bool, true, false, ◌&&◌, ◌||◌, not}

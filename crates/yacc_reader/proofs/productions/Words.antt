@@ -1,11 +1,11 @@
--- Symbols in words, a symbol and a production put into the packed words. Assumes nothing.
+-- Symbols in words, a symbol and a production put into the packed words.
 use Prim.Native.Nat.{ℕ, zero, suc, ◌+◌, ◌*◌, ◌≤◌, ◌<◌}
 use native.Mathlib.Omega.{arith}
 use mathlib.Core.Bool.{Bool, true, ◌&&◌}
 use mathlib.Core.Path.{◌≡◌, refl, sym, ap, ◌∙◌}
-use mathlib.Core.List.{List, [], ◌∷◌, ◌++◌, append_assoc}
-use lib.ListN.{length, get_or, take, drop, set, length-set, length-drop}
-use lib.Seq.{take-set-le, drop-set-lt, drop-set-add, take-suc-set}
+use mathlib.Core.List.{List, [], ◌∷◌, ◌++◌}
+use lib.ListN.{length, get_or, take, drop, set}
+use lib.Seq.{take-set-le, drop-set-lt}
 use borrow.Author.Tests.{lt-ltb}
 use Rattle.lr1_base.specs.repr.Sizes.{nonterminal_limit, terminal_limit, production_limit, symbol_limit, production_place, grammar_room}
 use Rattle.lr1_base.specs.repr.Meaning.{Symbol, nonterminal, terminal, Table, production_at, SymbolFits, All}

@@ -1,4 +1,4 @@
--- A name placed and an id numbered keep what is held; the turns of the loop. Assumes nothing.
+-- A name placed and an id numbered keep what is held; the turns of the loop.
 use Prim.Native.Nat.{ℕ, zero, suc, ◌+◌, ◌-◌, ◌≤◌, ◌<◌}
 use native.Mathlib.Omega.{arith}
 use native.Mathlib.Numerals.{add-one}

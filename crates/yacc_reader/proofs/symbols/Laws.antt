@@ -1,4 +1,4 @@
--- The places of ids that are looked up. Assumes nothing.
+-- The places of ids that are looked up.
 use Prim.Native.Nat.{ℕ, suc}
 use native.Mathlib.Omega.{arith}
 use mathlib.Core.Bool.{Bool, true, false, ◌&&◌, not}

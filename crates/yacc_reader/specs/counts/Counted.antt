@@ -1,4 +1,4 @@
--- The counts of a text's alternatives, and as the loop makes them. Assumes nothing: these are definitions.
+-- The counts of a text's alternatives, and as the loop makes them.
 use Rattle.std.specs.Prelude.{ℕ, ◌+◌, ◌≤◌, ◌<◌, true, false, List, [], map, Option as Answered, Some, None, IfSome, ltb, length}
 use Rattle.std.proofs.Math.Option.{none, some}
 use Rattle.lr1_base.specs.repr.Sizes.{symbol_limit}

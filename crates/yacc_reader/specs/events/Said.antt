@@ -1,4 +1,4 @@
--- What a word says in a mode, and a function of all that a text says, as a loop over the tokens computes it. Assumes nothing: these are definitions.
+-- What a word says in a mode, and a function of all that a text says, as a loop over the tokens computes it.
 use Rattle.std.specs.Prelude.{ℕ, ◌+◌, ◌-◌, List, [], ◌∷◌, get_or, take, drop}
 use Rattle.std.proofs.Math.Option.{Option, none, some}
 use Rattle.yacc_syntax.specs.text.Grammar.{Id, named, quoted}

@@ -1,4 +1,4 @@
--- What going through the words of a text gives. Assumes nothing: these are definitions.
+-- What going through the words of a text gives.
 use Rattle.std.specs.Prelude.{ℕ, ◌≡◌, List, [], Option as Answered, Some, None}
 use Rattle.std.proofs.Math.Option.{some}
 use Rattle.yacc_syntax.specs.text.Forward.{move}

@@ -1,4 +1,4 @@
--- What a limit means: the refusal, or the table and the places written. Assumes nothing: these are definitions.
+-- What a limit means: the refusal, or the table and the places written.
 use Rattle.std.specs.Prelude.{ℕ, ◌≡◌, List, length}
 use Rattle.lr1_base.specs.words.Lent.{in_front}
 use Rattle.lr1_base.specs.repr.Reply.{Reply, answered, refused}

@@ -1,4 +1,4 @@
--- Where 21 is: the first token at fault. Assumes nothing: these are definitions.
+-- Where 21 is: the first token at fault.
 use Rattle.std.specs.Prelude.{ℕ, Bool, true, false, not, List, [], ◌∷◌}
 use Rattle.std.proofs.Math.Option.{Option, none, some}
 use Rattle.lr1_base.specs.repr.Lists.{some?}

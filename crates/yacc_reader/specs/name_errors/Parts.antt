@@ -1,4 +1,4 @@
--- The parts of 21 by themselves, as its laws have them (proofs/name_errors/Parts): the ids of bodies and the START ids from all that is said, and the names by the words of their numbers. Assumes nothing: these are definitions.
+-- The parts of 21 by themselves, as its laws have them (proofs/name_errors/Parts): the ids of bodies and the START ids from all that is said, and the names by the words of their numbers.
 use Rattle.std.specs.Prelude.{ℕ, ◌+◌, Bool, true, false, ◌&&◌, not, List, [], ◌∷◌, get_or, eqb}
 use Rattle.lr1_base.specs.repr.Lists.{some?, joined, below}
 use Rattle.yacc_syntax.specs.text.Grammar.{Id, byte_limit}

@@ -1,5 +1,4 @@
 -- Names in the order of their entering: where each begins, and behind its last byte. Their index: a word for each bucket, which holds 0 or one more than the number of the latest name in it, then a word for each name, which holds the next older one of its bucket alike.
--- Assumes nothing: these are definitions.
 use Rattle.std.specs.Prelude.{ℕ, zero, suc, ◌+◌, ◌*◌, ◌%◌, ◌≤◌, ◌<◌, Bool, true, false, List, [], ◌∷◌, Option, Some, None, length, get_or, set, eqb}
 use Rattle.std.proofs.Math.Seq.{slice}
 use Rattle.lr1_base.specs.words.Same.{same_words}

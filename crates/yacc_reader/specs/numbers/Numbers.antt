@@ -1,4 +1,4 @@
--- The numbers of ids in words, and one id more. Assumes nothing: these are definitions.
+-- The numbers of ids in words, and one id more.
 use Rattle.std.specs.Prelude.{ℕ, suc, ◌+◌, ◌≤◌, ◌<◌, true, false, ◌≡◌, List, length, get_or, set, eqb}
 use Rattle.yacc_syntax.specs.text.Grammar.{Id}
 use Rattle.yacc_reader.specs.parsed_file.Source.{Known, is_known, number_in}

@@ -1,5 +1,4 @@
 -- What the tokens of a text say, in text order, with their places (docs/YACC.md, Meaning): which ids a TOKEN list declares, the START id, left sides, ids of bodies, ends of bodies.
--- Assumes nothing: these are definitions.
 use Rattle.std.specs.Prelude.{ℕ, List, [], ◌∷◌, ◌++◌}
 use Rattle.yacc_syntax.specs.text.Grammar.{Id, Token, ident, token, start, mark, colon, bar, semi}
 use Rattle.yacc_syntax.specs.text.Places.{Placed}

@@ -1,4 +1,4 @@
--- The alternatives of an abstract file, in text order. Assumes nothing: these are definitions.
+-- The alternatives of an abstract file, in text order.
 use Rattle.std.specs.Prelude.{List, ◌∷◌, ◌++◌, map}
 use Rattle.lr1_base.specs.repr.Lists.{joined}
 use Rattle.yacc_syntax.specs.text.Grammar.{Id, named, Rule, rule, File}

@@ -1,4 +1,4 @@
--- The table that a text means (docs/YACC.md, Meaning): the file's productions and one empty state, its start and places. Assumes nothing: these are definitions.
+-- The table that a text means (docs/YACC.md, Meaning): the file's productions and one empty state, its start and places.
 use Rattle.std.specs.Prelude.{ℕ, true, false, List, [], ◌∷◌, ◌++◌, map, length, get_or, eqb}
 use Rattle.lr1_base.specs.repr.Lists.{below, keep}
 use Rattle.lr1_base.specs.repr.Meaning.{Symbol, nonterminal, terminal, Production, Table, no_production, no_state}

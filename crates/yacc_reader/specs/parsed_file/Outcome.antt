@@ -1,5 +1,4 @@
--- What reading a yacc text answers and leaves in the lent words (Req 09), for every text and buffers. Refusals 20, 21, 2, 5, 17 in this order.
--- Assumes nothing: these are definitions.
+-- What reading a yacc text answers and leaves in the lent words (docs/YACC.md), for every text and buffers. Refusals 20, 21, 2, 5, 17 in this order.
 use Rattle.std.specs.Prelude.{ℕ, suc, ◌+◌, ◌/◌, Bool, true, false, ◌&&◌, ◌||◌, not, List, [], ◌∷◌, length, leb, ltb}
 use Rattle.std.proofs.Math.Option.{Option, none, some}
 use Rattle.lr1_base.specs.words.Lent.{in_front}

@@ -1,5 +1,4 @@
 -- What a text says before anything is numbered: its nonterminals and terminals in the order of their numbers, its alternatives with their spans.
--- Assumes nothing: these are definitions.
 use Rattle.std.specs.Prelude.{ℕ, suc, Bool, true, false, ◌&&◌, List, [], ◌∷◌, ◌++◌, map, eqb}
 use Rattle.lr1_base.specs.words.Same.{same_words}
 use Rattle.lr1_base.specs.repr.Lists.{some?, joined}

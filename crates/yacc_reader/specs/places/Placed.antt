@@ -1,4 +1,4 @@
--- The place that gets an id's number, written when its turn comes. Assumes nothing: these are definitions.
+-- The place that gets an id's number, written when its turn comes.
 use Rattle.std.specs.Prelude.{ℕ, ◌+◌, true, false, List, [], ◌∷◌, set, eqb}
 use Rattle.yacc_reader.specs.parsed_file.Source.{Known}
 use Rattle.yacc_reader.specs.numbers.Numbers.{place_in}

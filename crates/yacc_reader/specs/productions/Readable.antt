@@ -1,4 +1,4 @@
--- What the refusals before 17 leave of a text (docs/YACC.md, Refusals). Assumes nothing: these are definitions.
+-- What the refusals before 17 leave of a text (docs/YACC.md, Refusals).
 use Rattle.std.specs.Prelude.{◌≤◌, true, false, ◌≡◌, length}
 use Rattle.std.proofs.Math.Option.{none}
 use Rattle.lr1_base.specs.repr.Meaning.{All}

@@ -1,4 +1,4 @@
--- The productions of a text (docs/YACC.md, Meaning: Production, Span) as the loop over its tokens packs them. Assumes nothing: these are definitions.
+-- The productions of a text (docs/YACC.md, Meaning: Production, Span) as the loop over its tokens packs them.
 use Rattle.std.specs.Option.{unwrap_or}
 use Rattle.std.specs.Prelude.{Some, None, IfSome, ℕ, ◌+◌, ◌*◌, ◌≤◌, ◌<◌, Bool, true, false, ◌≡◌, List, [], ◌∷◌, ◌++◌, map, length, get_or, take, drop, set}
 use Rattle.std.proofs.Math.Option.{none, some}

@@ -1,4 +1,4 @@
--- The ids of a text while they are entered. Assumes nothing: these are definitions.
+-- The ids of a text while they are entered.
 use Rattle.std.specs.Prelude.{true, ◌≡◌, List}
 use Rattle.yacc_syntax.specs.recognizer.Accepted.{is_grammar_text}
 use Rattle.yacc_syntax.specs.declared.lexer.Lexeme.{Lexeme}

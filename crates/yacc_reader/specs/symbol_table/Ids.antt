@@ -1,4 +1,4 @@
--- The ids of a text in words: its names by their places with their index, a number for each name that is a left side, a number for each literal and each name that is a token. Assumes nothing: these are definitions.
+-- The ids of a text in words: its names by their places with their index, a number for each name that is a left side, a number for each literal and each name that is a token.
 use Rattle.std.specs.Prelude.{ℕ, ◌+◌, ◌-◌, ◌≤◌, ◌<◌, Bool, true, false, ◌≡◌, List, length, get_or, ltb}
 use Rattle.std.proofs.Math.Option.{some}
 use Rattle.yacc_syntax.specs.text.Grammar.{Id, quoted, Layout, text_limit, byte_limit}

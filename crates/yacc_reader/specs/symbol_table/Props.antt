@@ -1,4 +1,4 @@
--- No two proofs that ids are entered differ, so that a struct may hold one. Assumes nothing.
+-- No two proofs that ids are entered differ, so that a struct may hold one.
 use Rattle.std.specs.Prelude.{ℕ, ◌+◌, List, [], ◌∷◌, slice_index}
 use Rattle.std.proofs.Props.{props}
 use Rattle.lr1_base.specs.hash_index.Chains.{Linked}

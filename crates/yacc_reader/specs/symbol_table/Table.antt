@@ -1,4 +1,4 @@
--- What a table of ids holds. Assumes nothing: these are definitions.
+-- What a table of ids holds.
 use Rattle.std.specs.Prelude.{List}
 use Rattle.yacc_reader.specs.parsed_file.Source.{Known}
 use Rattle.yacc_reader.specs.symbol_table.Ids.{Held}

@@ -1,4 +1,4 @@
--- What entering ids asks and leaves of the words they are entered in. Assumes nothing: these are definitions.
+-- What entering ids asks and leaves of the words they are entered in.
 use Rattle.std.specs.Prelude.{ℕ, ◌+◌, ◌≤◌, ◌<◌, ◌≡◌, List, length}
 use Rattle.yacc_syntax.specs.text.Grammar.{byte_limit}
 use Rattle.yacc_reader.specs.parsed_file.Source.{Known}

@@ -1,4 +1,4 @@
--- The symbol of an id. Assumes nothing: these are definitions.
+-- The symbol of an id.
 use Rattle.std.specs.Prelude.{false, ◌≡◌}
 use Rattle.lr1_base.specs.repr.Symbols.{meant}
 use Rattle.lr1_base.specs.declared.repr.Symbol.{Symbol}

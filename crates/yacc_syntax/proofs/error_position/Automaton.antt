@@ -1,4 +1,4 @@
--- The automaton accepts exactly the texts of the grammar; from every live state some bytes lead on to one, and a dead one stays dead. Assumes nothing.
+-- The automaton accepts exactly the texts of the grammar; from every live state some bytes lead on to one, and a dead one stays dead.
 use Prim.Native.Nat.{ℕ, zero, suc, ◌≤◌, ◌<◌}
 use native.Mathlib.Omega.{arith}
 use mathlib.Core.Bool.{Bool, true, false, ◌&&◌, not, and-false}

@@ -1,4 +1,4 @@
--- Texts and the byte at which each leaves the grammar, computed. Assumes nothing.
+-- Texts and the byte at which each leaves the grammar, computed.
 use Prim.Native.Nat.{ℕ, suc, ◌+◌, ◌<◌}
 use native.Mathlib.Omega.{arith}
 use mathlib.Core.Bool.{true, false}

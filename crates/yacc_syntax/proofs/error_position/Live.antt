@@ -1,4 +1,4 @@
--- Where the automaton dies is the first byte that no text of the grammar can have there. Assumes nothing.
+-- Where the automaton dies is the first byte that no text of the grammar can have there.
 use Prim.Native.Nat.{ℕ, suc, ◌≤◌, ◌<◌}
 use mathlib.Core.Bool.{Bool, true, false}
 use mathlib.Core.Path.{◌≡◌, refl, sym, ap, ◌∙◌, subst}

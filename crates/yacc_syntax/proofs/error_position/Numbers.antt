@@ -1,4 +1,4 @@
--- The automaton's steps in code. Assumes nothing.
+-- The automaton's steps in code.
 use Prim.Native.Nat.{ℕ, ◌+◌, ◌<◌}
 use mathlib.Core.Bool.{false}
 use mathlib.Core.Path.{◌≡◌, refl, sym, ap, ◌∙◌}

@@ -1,4 +1,4 @@
--- Line and column, counted. Assumes nothing.
+-- Line and column, counted.
 use Prim.Native.Nat.{ℕ, ◌+◌}
 use native.Mathlib.Omega.{arith}
 use mathlib.Core.Bool.{Bool, true, false, not}

@@ -1,4 +1,4 @@
--- Bytes and their kinds. Assumes nothing.
+-- Bytes and their kinds.
 use Prim.Native.Nat.{ℕ}
 use mathlib.Core.Bool.{Bool, true, false, ◌||◌}
 use mathlib.Core.Path.{◌≡◌, refl, sym, ap}

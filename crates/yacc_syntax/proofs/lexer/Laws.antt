@@ -1,4 +1,4 @@
--- One piece at a place of a text, and the tokens from there on. Assumes nothing.
+-- One piece at a place of a text, and the tokens from there on.
 use Prim.Native.Nat.{ℕ, ◌+◌, ◌-◌, ◌≤◌, ◌<◌}
 use native.Mathlib.Omega.{arith}
 use mathlib.Core.Bool.{Bool, true, false, ◌&&◌}

@@ -1,4 +1,4 @@
--- Runs of bytes from a place of a text on: names, words, comments. Assumes nothing.
+-- Runs of bytes from a place of a text on: names, words, comments.
 use Prim.Native.Nat.{ℕ, suc, ◌+◌, ◌-◌, ◌≤◌, ◌<◌}
 use native.Mathlib.Numerals.{add-one}
 use native.Mathlib.Omega.{arith}

@@ -1,4 +1,4 @@
--- The loop's turns; a text of the grammar is one that the loop accepts. Assumes nothing.
+-- The loop's turns; a text of the grammar is one that the loop accepts.
 use Prim.Native.Nat.{ℕ, ◌+◌}
 use mathlib.Core.Bool.{Bool, true, false, true≢false}
 use mathlib.Core.Logic.{◌⊎◌, inl, inr}

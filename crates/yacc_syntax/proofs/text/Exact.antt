@@ -1,4 +1,4 @@
--- `parse` is exact: it finds the layout of every text of the grammar, and none else; so a text has one layout. Assumes nothing.
+-- `parse` is exact: it finds the layout of every text of the grammar, and none else; so a text has one layout.
 use Prim.Native.Nat.{ℕ, ◌≤◌, ◌<◌}
 use native.Mathlib.Omega.{arith}
 use mathlib.Core.Path.{◌≡◌, refl, sym, ap, ◌∙◌}

@@ -1,4 +1,4 @@
--- The edges of each class of bytes, and texts computed. Assumes nothing.
+-- The edges of each class of bytes, and texts computed.
 use mathlib.Core.Bool.{Bool, true, false}
 use Prim.Native.Nat.{ℕ}
 use mathlib.Core.Path.{◌≡◌, refl}

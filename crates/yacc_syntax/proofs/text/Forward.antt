@@ -1,4 +1,4 @@
--- The loop from the front accepts exactly the token lists that `run` gives a file for. Assumes nothing.
+-- The loop from the front accepts exactly the token lists that `run` gives a file for.
 use mathlib.Core.Bool.{Bool, true, false}
 use mathlib.Core.Path.{◌≡◌, refl, sym, ap, ◌∙◌}
 use mathlib.Core.List.{List, [], ◌∷◌, map}

@@ -1,4 +1,4 @@
--- The lexer is exact: each piece is read back whatever may follow it, and what is read is what stands there. Assumes nothing.
+-- The lexer is exact: each piece is read back whatever may follow it, and what is read is what stands there.
 use Prim.Native.Nat.{ℕ, zero, suc, ◌≤◌, ◌<◌}
 use native.Mathlib.Omega.{arith}
 use mathlib.Core.Bool.{Bool, true, false, ◌&&◌, not}

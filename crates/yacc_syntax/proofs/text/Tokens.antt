@@ -1,4 +1,4 @@
--- The tokens: `run` gives back the file whose tokens they are, and no other. Assumes nothing.
+-- The tokens: `run` gives back the file whose tokens they are, and no other.
 use Prim.Native.Nat.{ℕ}
 use native.Mathlib.Omega.{arith}
 use mathlib.Core.Bool.{Bool, true, false}

@@ -1,5 +1,4 @@
 -- A text byte after byte (the second level): a mode of module text, and where in a piece the next byte stands. The mode moves as soon as the token is certain, and is dead as soon as no text of the grammar goes on so.
--- Assumes nothing: these are definitions.
 use Rattle.std.specs.Prelude.{ℕ, Bool, true, false, ◌&&◌, List, [], ◌∷◌, eqb}
 use Rattle.yacc_syntax.specs.text.Grammar.{Kind, blank, letter, digit, quote, percent, slash, colons, bars, semis, other, kind_of, goes_on_byte, literal_byte, named, quoted, ident, token, start, colon, bar, semi}
 use Rattle.yacc_syntax.specs.text.Forward.{Mode, top, wanted, listed, starting, ruled, sided, bodied, done, dead, move, last}

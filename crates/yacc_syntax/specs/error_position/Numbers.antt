@@ -1,4 +1,4 @@
--- The code's stages as the automaton's states. Assumes nothing: these are definitions.
+-- The code's stages as the automaton's states.
 use Rattle.std.specs.Prelude.{◌≡◌}
 use Rattle.yacc_syntax.specs.recognizer.Accepted.{mode_of}
 use Rattle.yacc_syntax.specs.error_position.Automaton.{Part, between, run, signed, word, opened, filled, slashed, inside, starred, State, at}

@@ -1,4 +1,4 @@
--- Where a text leaves the grammar (docs/YACC.md): the first byte that no text of the grammar can have there. Assumes nothing: these are definitions.
+-- Where a text leaves the grammar (docs/YACC.md): the first byte that no text of the grammar can have there.
 use Rattle.std.specs.Prelude.{ℕ, suc, ◌+◌, ◌≤◌, ◌<◌, true, false, ◌≡◌, List, [], ◌∷◌, ◌++◌, eqb, length, take}
 use Rattle.lr1_base.specs.repr.Lists.{occurrences}
 use Rattle.yacc_syntax.specs.text.Grammar.{Layout, Sound, spell}

@@ -1,4 +1,4 @@
--- What the lexer's steps answer, in the terms of module text. Assumes nothing: these are definitions.
+-- What the lexer's steps answer, in the terms of module text.
 use Rattle.std.specs.Prelude.{ℕ, suc, ◌+◌, ◌-◌, ◌≤◌, ◌<◌, Bool, true, false, ◌≡◌, List, [], ◌∷◌, Option as Answered, Some, None, length, get_or, take, drop, eqb}
 use Rattle.std.proofs.Math.Option.{Option, none, some}
 use Rattle.yacc_syntax.specs.text.Grammar.{named, quoted, Token, ident, token, start, mark, colon, bar, semi, closes}

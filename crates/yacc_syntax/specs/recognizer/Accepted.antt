@@ -1,4 +1,4 @@
--- The code's modes as those of module text, and the texts of the grammar, but for their length. Assumes nothing: these are definitions.
+-- The code's modes as those of module text, and the texts of the grammar, but for their length.
 use Rattle.std.specs.Prelude.{ℕ, Bool, true, false, List, map}
 use Rattle.std.proofs.Math.Option.{Option, none, some}
 use Rattle.yacc_syntax.specs.text.Parse.{parse}

@@ -1,4 +1,4 @@
--- The tokens from the first to the last, as a loop reads them: a mode says what may follow. Assumes nothing: these are definitions.
+-- The tokens from the first to the last, as a loop reads them: a mode says what may follow.
 use Rattle.std.specs.Prelude.{Bool, true, false, List, [], ◌∷◌}
 use Rattle.yacc_syntax.specs.text.Grammar.{Id, named, quoted, Token, ident, token, start, mark, colon, bar, semi}
 

@@ -1,5 +1,4 @@
 -- The yacc texts that are read (docs/YACC.md), without a parser: an abstract file, a layout that writes it down, and what a sound layout is.
--- Assumes nothing: these are definitions.
 use Rattle.std.specs.Prelude.{ℕ, ◌≤◌, ◌<◌, Bool, true, false, ◌&&◌, ◌||◌, not, ◌≡◌, List, [], ◌∷◌, ◌++◌, eqb, leb, length, get_or}
 use Rattle.lr1_base.specs.numerals.Numeral.{is_digit_byte}
 

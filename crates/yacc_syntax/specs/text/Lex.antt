@@ -1,4 +1,4 @@
--- The pieces one after the other, as a lexer reads them: what stands at the front of a text. Assumes nothing: these are definitions.
+-- The pieces one after the other, as a lexer reads them: what stands at the front of a text.
 use Rattle.std.specs.Prelude.{ℕ, zero, suc, Bool, true, false, ◌&&◌, List, [], ◌∷◌, eqb, length}
 use Rattle.std.proofs.Math.Option.{Option, none, some}
 use Rattle.yacc_syntax.specs.text.Grammar.{Kind, blank, letter, digit, quote, percent, slash, colons, bars, semis, other, kind_of, goes_on_byte, named, quoted, Token, ident, token, start, mark, colon, bar, semi, Piece, white, comment, piece, closes, literal_byte, stops}

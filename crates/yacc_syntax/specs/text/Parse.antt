@@ -1,4 +1,4 @@
--- The layout of a text as a function: its pieces by `lex`, then the tokens from the last to the first. Assumes nothing: these are definitions.
+-- The layout of a text as a function: its pieces by `lex`, then the tokens from the last to the first.
 use Rattle.std.specs.Prelude.{ℕ, true, false, List, [], ◌∷◌}
 use Rattle.std.proofs.Math.Option.{Option, none, some}
 use Rattle.yacc_syntax.specs.text.Grammar.{Id, named, quoted, Token, ident, token, start, mark, colon, bar, semi, Piece, Rule, rule, Def, starts, tokens, File, one_start, tokens_in, Layout}

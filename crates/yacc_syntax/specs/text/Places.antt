@@ -1,4 +1,4 @@
--- The tokens of a text with their places. Assumes nothing: these are definitions.
+-- The tokens of a text with their places.
 use Rattle.std.specs.Prelude.{ℕ, ◌+◌, List, [], ◌∷◌, length, drop}
 use Rattle.std.proofs.Math.Option.{Option, none, some}
 use Rattle.yacc_syntax.specs.text.Grammar.{Token, Piece, white, comment, piece, spell_piece}

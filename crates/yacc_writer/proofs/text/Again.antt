@@ -1,4 +1,4 @@
--- What is written is read back: the same counts, owners, symbols and chains, start 0; and written again it is the same bytes. Assumes nothing.
+-- What is written is read back: the same counts, owners, symbols and chains, start 0; and written again it is the same bytes.
 use Prim.Native.Nat.{ℕ, zero, suc, ◌+◌, ◌≤◌, ◌<◌}
 use native.Mathlib.Omega.{arith}
 use mathlib.Core.Bool.{Bool, true, false, ◌&&◌}

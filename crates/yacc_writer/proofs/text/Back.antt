@@ -1,4 +1,4 @@
--- The chains of what is written and read back are the table's. Assumes nothing.
+-- The chains of what is written and read back are the table's.
 use Prim.Native.Nat.{ℕ, ◌<◌}
 use native.Mathlib.Omega.{arith}
 use mathlib.Core.Bool.{Bool, true}

@@ -1,4 +1,4 @@
--- Tables written by the definition. Assumes nothing.
+-- Tables written by the definition.
 use mathlib.Core.Path.{◌≡◌, refl}
 use Prim.Native.Nat.{ℕ}
 use mathlib.Core.List.{List, [], ◌∷◌, map}

@@ -1,4 +1,4 @@
--- The text that is written is the spelling of a sound layout, so it is read, and as the file that was written; it fits in 9,468 bytes. Assumes nothing.
+-- The text that is written is the spelling of a sound layout, so it is read, and as the file that was written; it fits in 9,468 bytes.
 use Prim.Native.Nat.{ℕ, ◌+◌, ◌*◌, ◌≤◌}
 use native.Mathlib.Omega.{arith}
 use mathlib.Core.Bool.{true}

@@ -1,4 +1,4 @@
--- Names that are written: a letter and at most two digits. Assumes nothing.
+-- Names that are written: a letter and at most two digits.
 use Prim.Native.Nat.{ℕ, ◌≤◌, ◌<◌}
 use native.Mathlib.Omega.{arith}
 use mathlib.Core.Bool.{true}

@@ -1,4 +1,4 @@
--- Left sides that are met in the order of their numbers are numbered as they were. Assumes nothing.
+-- Left sides that are met in the order of their numbers are numbered as they were.
 use Prim.Native.Nat.{ℕ, zero, suc, ◌+◌, ◌≤◌, ◌<◌}
 use native.Mathlib.Omega.{arith}
 use mathlib.Core.Bool.{Bool, true, false, not}

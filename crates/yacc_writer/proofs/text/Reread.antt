@@ -1,4 +1,4 @@
--- What is written is read again: no refusal but 17 is left. Assumes nothing.
+-- What is written is read again: no refusal but 17 is left.
 use Prim.Native.Nat.{ℕ, suc, ◌+◌, ◌≤◌, ◌<◌}
 use native.Mathlib.Omega.{arith}
 use mathlib.Core.Bool.{Bool, true, false, ◌&&◌, not}

@@ -1,4 +1,4 @@
--- What is written is the spelling of a sound layout: it is read again, as the file that was written. Assumes nothing.
+-- What is written is the spelling of a sound layout: it is read again, as the file that was written.
 use Prim.Native.Nat.{ℕ, zero, suc, ◌+◌, ◌≤◌, ◌<◌}
 use native.Mathlib.Omega.{arith}
 use mathlib.Core.Bool.{Bool, true, ◌&&◌}

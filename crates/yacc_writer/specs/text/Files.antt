@@ -1,4 +1,4 @@
--- The abstract file that is written of a table, and its layout: a rule for each production. Assumes nothing: these are definitions.
+-- The abstract file that is written of a table, and its layout: a rule for each production.
 use Rattle.std.specs.Prelude.{ℕ, zero, suc, List, [], ◌∷◌, map}
 use Rattle.lr1_base.specs.repr.Lists.{up_from}
 use Rattle.lr1_base.specs.repr.Meaning.{terminal, Production, Table}

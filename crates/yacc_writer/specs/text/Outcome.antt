@@ -1,4 +1,4 @@
--- What writing a yacc text answers and leaves in the lent bytes (Req 09), for every table and every buffer: 1 to 8, then 23, then 17. Assumes nothing: these are definitions.
+-- What writing a yacc text answers and leaves in the lent bytes (docs/YACC.md), for every table and every buffer: 1 to 8, then 23, then 17.
 use Rattle.std.specs.Prelude.{ℕ, true, false, List, length, leb}
 use Rattle.lr1_base.specs.words.Lent.{in_front}
 use Rattle.lr1_base.specs.repr.Reply.{Reply, answered, refused}

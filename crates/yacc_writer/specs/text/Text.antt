@@ -1,4 +1,4 @@
--- The yacc text that is written of a table (docs/YACC.md, What is written), token by token. Assumes nothing: these are definitions.
+-- The yacc text that is written of a table (docs/YACC.md, What is written), token by token.
 use Rattle.std.specs.Prelude.{ℕ, zero, suc, Bool, true, false, ◌&&◌, List, [], ◌∷◌, ◌++◌, map, leb}
 use Rattle.lr1_base.specs.repr.Lists.{below, joined}
 use Rattle.lr1_base.specs.repr.Meaning.{Symbol, nonterminal, terminal, Production, Table}

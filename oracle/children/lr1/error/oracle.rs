@@ -3,7 +3,7 @@ use super::*;
 
 pub struct Judge<'cx, 'grammar>(ErrorReportingCx<'cx, 'grammar>);
 
-/// A classification: its number by document 01, its own values, its examples.
+/// A classification: its number (docs/RULES.md, "Classes"), its own values, its examples.
 pub struct Judged {
     pub class: u16,
     pub own: Own,

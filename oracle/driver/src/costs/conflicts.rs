@@ -143,8 +143,7 @@ fn judged_in(name: &str, kind: &str, seed: u64) {
     }
 }
 
-/// Automata of 60 to 128 states with conflicts, which the plain reader of
-/// request 01 builds of random grammars: the first twelve, each by all its
+/// Automata of 60 to 128 states with conflicts, which the plain reader builds of random grammars: the first twelve, each by all its
 /// conflicts that are not refused.
 fn judged_automata() {
     let built = (0u64..).filter_map(|seed| {

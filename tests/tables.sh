@@ -1,12 +1,31 @@
 #!/bin/sh
-# Tries the built programs yacc, unyacc, parse_words, states, explain, respell, print_table and compact on the tables of this folder and on inputs made here, and compares what they write.
+# Tries the built programs yacc, unyacc, parse_words, states, explain, respell, print_table and compact on the tables of tables/ and on inputs made here, and compares what they write.
 # Where an expected output comes from: TABLE.out is what the Rust's explaining program writes for that table (`oracle explain`, oracle/README.md),
-# and so is every expected line below that is not a refusal; the refusals are document 01's rows, applied by hand where they stand.
-# GRAMMAR.out is what that program writes for the states and conflicts of the oracle's own reader of request 01, YACC.y.out what it writes for those of `yacc | states`, which the oracle's readers are compared with elsewhere; .err is what `explain.sh` says.
+# and so is every expected line below that is not a refusal; the refusals are those of docs/RULES.md, applied by hand where they stand.
+# GRAMMAR.out is what that program writes for the states and conflicts of the oracle's own reader of grammars, YACC.y.out what it writes for those of `yacc | states`, which the oracle's readers are compared with elsewhere; .err is what `explain.sh` says.
+case ${1-} in
+    '') ;;
+    -h | --help)
+        echo "usage: tests/tables.sh"
+        echo "Compares what the library's programs write for the files of tables/ with what is stored there."
+        echo "A program that is not built is proved and built first, which takes minutes."
+        exit 0
+        ;;
+    *)
+        echo "tables.sh: takes no argument" >&2
+        exit 2
+        ;;
+esac
 cd "$(dirname "$0")/.." || exit 1
 work=$(mktemp -d) || exit 1
 trap 'rm -rf "$work"' EXIT
 failed=0
+
+for p in yacc unyacc parse_words states explain respell print_table compact; do
+    [ ! -x "crates/$p/out/$p" ] || continue
+    echo "tables.sh: proving and building the program $p"
+    (cd "crates/$p" && rt run </dev/null >/dev/null) || [ -x "crates/$p/out/$p" ] || exit 1
+done
 
 verdict() { # name, status
     if [ "$2" -eq 0 ]; then
@@ -29,7 +48,7 @@ typed() {
     crates/parse_words/out/parse_words >"$work/input" 2>"$work/unread" && [ ! -s "$work/unread" ]
 }
 
-# Table B of document 01, its 96 words; a word may be put at a place.
+# Table B (docs/RULES.md), its 96 words; a word may be put at a place.
 table_b() { # place, word
     sed 's/#.*//' tables/table_b.txt | awk -v at="${1:--2}" -v word="${2:-0}" '
         { for (i = 1; i <= NF; i++) if (k < 97) { print (k == at + 1 ? word : $i); k++ } }'
@@ -237,7 +256,7 @@ for t in tables/*.txt; do
     verdict "$t, spread, compact: its own words" $?
 done
 
-# Bad tables: document 01's own inputs of refusals 2, 3, 4 and 7; a place is record * 4 + word.
+# Bad tables: the inputs of refusals 2, 3, 4 and 7 in docs/RULES.md; a place is record * 4 + word.
 refused_table() { # refusal, place, changed place, word
     table_b "$3" "$4" | typed
     echo "0 refused $1 $2" >"$work/expected"
@@ -268,7 +287,7 @@ explains "no record"
 { echo 8193; awk 'BEGIN { for (i = 0; i < 8193 * 4; i++) print 0 }'; } | typed
 explains "8,193 records"
 
-# Conflicts of table B. Its class and lines of 3 0 0 0 0 are document 01's program run.
+# Conflicts of table B. The class and lines of 3 0 0 0 0 stand in docs/RULES.md.
 precedence() { # how many
     awk -v n="$1" 'BEGIN { for (k = 1; k <= n; k++) {
         print k " 2 3 3 0"
@@ -373,7 +392,7 @@ says() { # name, part of what is said
 crates/explain/out/explain <"$work/one" >/dev/full 2>"$work/said"
 says "explain to a full device" 'standard output'
 crates/parse_words/out/parse_words <tables/table_b.txt >/dev/full 2>"$work/said"
-says "words to a full device" 'standard output'
+says "parse_words to a full device" 'standard output'
 # A program says that it cannot write the answer to the input, nor read a folder, of which it writes nothing.
 fails() { # program
     "crates/$1/out/$1" <"$work/input" >/dev/full 2>"$work/said"
@@ -394,9 +413,15 @@ says "explain of a folder" 'standard input'
 [ ! -s "$work/output" ]
 verdict "explain of a folder, nothing written" $?
 crates/parse_words/out/parse_words <tables >"$work/input" 2>"$work/said"
-says "words of a folder" 'standard input'
+says "parse_words of a folder" 'standard input'
 echo '0 refused 1 0' >"$work/expected"
 explains "words of a folder, explained"
+./explain.sh >"$work/output" 2>"$work/said"
+[ $? -eq 2 ] && grep -q '^usage: ' "$work/said" && [ ! -s "$work/output" ]
+verdict "explain.sh without a file says its usage" $?
+./explain.sh no-such-file.y >"$work/output" 2>"$work/said"
+[ $? -eq 2 ] && grep -q 'no-such-file.y' "$work/said" && [ ! -s "$work/output" ]
+verdict "explain.sh names a file that is not there" $?
 ./explain.sh tables >"$work/output" 2>"$work/said"
 [ $? -ne 0 ] && grep -q 'standard input' "$work/said"
 verdict "explain.sh fails for a folder" $?
