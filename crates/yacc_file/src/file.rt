@@ -1,0 +1,108 @@
+ghost use Rattle.std.specs.Prelude.{◌≡◌, [], All};
+ghost use Rattle.indexmap.specs.IndexSet.{index_set_len};
+ghost use Rattle.yacc_file.specs.Words.{NameFits};
+ghost use Rattle.yacc_file.specs.Syntax.{AliasFits, GroupFits, RuleFits};
+
+use crate::Name;
+use grammar::Associativity;
+use indexmap::IndexSet;
+use source::Span;
+use std::alloc::{AllocError, Global};
+
+/// A string that stands for a token.
+#[derive(Clone, Copy, Debug, PartialEq, Eq)]
+pub struct Alias {
+    pub text: Name,
+    pub token: Name,
+}
+
+/// The tokens of a `%left` or its like: one level of precedence.
+#[derive(Debug, Drop)]
+pub struct Group {
+    pub associativity: Associativity,
+    pub names: Vec<Name>,
+}
+
+/// A symbol of an alternative, or an action among the symbols, which is a rule of its own that stands for nothing.
+#[derive(Clone, Copy, Debug, PartialEq, Eq)]
+pub struct Item {
+    pub name: Name,
+    pub is_action: bool,
+}
+
+/// What a rule's name may stand for.
+#[derive(Debug, Drop)]
+pub struct Alternative {
+    pub items: Vec<Item>,
+    pub precedence: Option<Name>,
+    pub span: Span,
+}
+
+/// A rule.
+#[derive(Debug, Drop)]
+pub struct Rule {
+    pub left: Name,
+    pub alternatives: Vec<Alternative>,
+}
+
+/// A whole file. The groups come from the lowest precedence up.
+#[derive(Drop)]
+pub struct File {
+    pub names: IndexSet<String>,
+    pub tokens: Vec<Name>,
+    pub aliases: Vec<Alias>,
+    pub groups: Vec<Group>,
+    /// Names that were given a type.
+    pub typed: Vec<Name>,
+    pub starts: Vec<Name>,
+    pub expected: Option<usize>,
+    pub expected_reductions: Option<usize>,
+    pub rules: Vec<Rule>,
+    ghost tokens_fit: { All (NameFits (index_set_len names)) tokens.items },
+    ghost aliases_fit: { All (AliasFits (index_set_len names)) aliases.items },
+    ghost groups_fit: { All (GroupFits (index_set_len names)) groups.items },
+    ghost typed_fit: { All (NameFits (index_set_len names)) typed.items },
+    ghost starts_fit: { All (NameFits (index_set_len names)) starts.items },
+    ghost rules_fit: { All (RuleFits (index_set_len names)) rules.items },
+}
+
+impl File {
+    /// A file in which nothing stands, but that has names.
+    pub fn new(alloc: Global, names: IndexSet<String>) -> File
+        ensures { result.names ≡ names }
+    {
+        File {
+            names,
+            tokens: Vec::new(alloc),
+            aliases: Vec::new(alloc),
+            groups: Vec::new(alloc),
+            typed: Vec::new(alloc),
+            starts: Vec::new(alloc),
+            expected: None,
+            expected_reductions: None,
+            rules: Vec::new(alloc),
+        }
+    }
+
+    pub fn add_typed(&mut self, names: &[Name]) -> Result<(), AllocError>
+        requires { All (NameFits (index_set_len self.old.names)) names.now }
+        ensures names { self.new.names ≡ self.old.names }
+    {
+        self.typed.extend_from_slice(names)
+    }
+
+    pub fn add_starts(&mut self, names: &[Name]) -> Result<(), AllocError>
+        requires { All (NameFits (index_set_len self.old.names)) names.now }
+        ensures names { self.new.names ≡ self.old.names }
+    {
+        self.starts.extend_from_slice(names)
+    }
+
+    pub fn add_rule(&mut self, rule: Rule) -> Result<(), AllocError>
+        requires { RuleFits (index_set_len self.old.names) rule }
+        ensures names { self.new.names ≡ self.old.names }
+    {
+        self.rules.push(rule)?;
+        Ok(())
+    }
+}
