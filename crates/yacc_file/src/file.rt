@@ -9,7 +9,8 @@ use indexmap::IndexSet;
 use source::Span;
 use std::alloc::{AllocError, Global};
 
-/// A string that stands for a token.
+/// A name that stands for a token: a string that `%token` gives to it, or the name of the token with
+/// number 0, which stands for `$end`.
 #[derive(Clone, Copy, Debug, PartialEq, Eq)]
 pub struct Alias {
     pub text: Name,
@@ -23,22 +24,25 @@ pub struct Group {
     pub names: Vec<Name>,
 }
 
-/// A symbol of an alternative, or an action among the symbols, which is a rule of its own that stands for nothing.
+/// A symbol of an alternative, or an action among the symbols, which is a symbol that stands for
+/// nothing.
 #[derive(Clone, Copy, Debug, PartialEq, Eq)]
 pub struct Item {
     pub name: Name,
     pub is_action: bool,
 }
 
-/// What a rule's name may stand for.
+/// One of the lists of symbols that a rule's name stands for.
 #[derive(Debug, Drop)]
 pub struct Alternative {
     pub items: Vec<Item>,
+    /// What `%prec` names.
     pub precedence: Option<Name>,
+    /// Its text; the token before where it has none.
     pub span: Span,
 }
 
-/// A rule.
+/// A rule: a name and its alternatives.
 #[derive(Debug, Drop)]
 pub struct Rule {
     pub left: Name,
@@ -54,9 +58,14 @@ pub struct File {
     pub groups: Vec<Group>,
     /// Names that were given a type.
     pub typed: Vec<Name>,
+    /// What `%start` names.
     pub starts: Vec<Name>,
+    /// Whether a rule without `%prec` has the precedence of its last token.
+    pub has_default_precedence: bool,
     pub expected: Option<usize>,
     pub expected_reductions: Option<usize>,
+    /// The `%%` before the rules, if there is one.
+    pub rules_mark: Option<Span>,
     pub rules: Vec<Rule>,
     ghost tokens_fit: { All (NameFits (index_set_len names)) tokens.items },
     ghost aliases_fit: { All (AliasFits (index_set_len names)) aliases.items },
@@ -78,12 +87,23 @@ impl File {
             groups: Vec::new(alloc),
             typed: Vec::new(alloc),
             starts: Vec::new(alloc),
+            has_default_precedence: true,
             expected: None,
             expected_reductions: None,
+            rules_mark: None,
             rules: Vec::new(alloc),
         }
     }
 
+    /// The text of a name; nothing where the file has no such name.
+    pub fn text(&self, name: Name) -> &str {
+        match self.names.get_index(name.id) {
+            Some(text) => text.as_str(),
+            None => "",
+        }
+    }
+
+    /// Adds names that have a type.
     pub fn add_typed(&mut self, names: &[Name]) -> Result<(), AllocError>
         requires { All (NameFits (index_set_len self.old.names)) names.now }
         ensures names { self.new.names ≡ self.old.names }
@@ -91,6 +111,7 @@ impl File {
         self.typed.extend_from_slice(names)
     }
 
+    /// Adds names that `%start` has.
     pub fn add_starts(&mut self, names: &[Name]) -> Result<(), AllocError>
         requires { All (NameFits (index_set_len self.old.names)) names.now }
         ensures names { self.new.names ≡ self.old.names }
@@ -98,6 +119,7 @@ impl File {
         self.starts.extend_from_slice(names)
     }
 
+    /// Adds a rule behind the others.
     pub fn add_rule(&mut self, rule: Rule) -> Result<(), AllocError>
         requires { RuleFits (index_set_len self.old.names) rule }
         ensures names { self.new.names ≡ self.old.names }
