@@ -1,16 +1,13 @@
+//! The name that is perhaps meant by a misspelled one.
+
 use std::alloc::{AllocError, Global};
 use strsim::osa_distance;
 
 // Longer names are not compared: a comparison takes time by the product of the lengths.
 const LONGEST: usize = 64;
 
-// How many edits away a name may be that is taken for a misspelled one.
-fn most_edits(name: &str) -> usize {
-    (name.len() / 3).max(1)
-}
-
 /// The nearest of the names, if it is at most a third of the name's length of edits away: the first
-/// of those that are equally near.
+/// of those that are equally near. Nothing is near to a name of one or two letters.
 pub fn nearest_name<'a>(
     alloc: Global,
     name: &str,
@@ -20,7 +17,7 @@ pub fn nearest_name<'a>(
     if name.len() > LONGEST {
         return Ok(best);
     }
-    let mut limit = most_edits(name).saturating_add(1);
+    let mut limit = (name.len() / 3).saturating_add(1);
     for candidate in names {
         if candidate.len().abs_diff(name.len()) >= limit {
             continue;

@@ -1,8 +1,10 @@
+//! Messages with the line that they speak of, and carets under it.
+
 ghost use Rattle.std.specs.Prelude.{◌≤◌, length};
 
 use crate::shown::{push_bytes, push_repeated, push_text};
 use crate::{Diagnostic, Severity};
-use source::{Lines, Span};
+use source::{Lines, Place, Span};
 use std::alloc::{AllocError, Global};
 
 // How many bytes of a longer line are shown, and how many of them before the place in question.
@@ -20,6 +22,12 @@ pub enum Style {
     Warning,
     Note,
     Help,
+    /// The number of a line, and the bar behind it.
+    Gutter,
+    Conflict,
+    /// The first of two places that are set against each other, and the second.
+    Primary,
+    Secondary,
 }
 
 impl Style {
@@ -30,6 +38,8 @@ impl Style {
             Style::Error => "\x1b[1;31m",
             Style::Warning => "\x1b[1;35m",
             Style::Note | Style::Help => "\x1b[1;36m",
+            Style::Gutter | Style::Secondary => "\x1b[1;34m",
+            Style::Conflict | Style::Primary => "\x1b[1;33m",
         }
     }
 }
@@ -43,21 +53,36 @@ fn style_of(severity: Severity) -> Style {
     }
 }
 
-// The part of a long line that is shown around a place in it. It does not begin inside a character.
+// Where a character begins at or behind `from`, and at `at` at the latest.
+fn character_start(line: &[u8], from: usize, at: usize) -> usize
+    requires order { from ≤ at }
+    requires within { at ≤ length line.now }
+    ensures { result ≤ at }
+{
+    for i in from..at {
+        if line[i] & 0xc0 != 0x80 || i - from >= 3 {
+            return i;
+        }
+    }
+    at
+}
+
+// The part of a long line that is shown around a place in it.
 fn window(line: &[u8], at: usize) -> (usize, usize)
     requires { at ≤ length line.now }
-    ensures { (result.0 ≤ at) × (at ≤ result.1) × (result.1 ≤ length line.now) }
+    ensures start { result.0 ≤ at }
+    ensures end { (at ≤ result.1) × (result.1 ≤ length line.now) }
 {
     if line.len() <= SHOWN {
         return (0, line.len());
     }
-    let mut start = at.saturating_sub(BEFORE);
-    for _ in 0..3 {
-        if start < at && line[start] & 0xc0 == 0x80 {
-            start += 1;
-        }
-    }
-    (start, at + (line.len() - at).min(SHOWN - BEFORE))
+    let start = character_start(line, at.saturating_sub(BEFORE), at);
+    let end = if line.len() - at > SHOWN - BEFORE {
+        at + (SHOWN - BEFORE)
+    } else {
+        line.len()
+    };
+    (start, end)
 }
 
 /// Writes what is said of one file.
@@ -71,18 +96,46 @@ pub struct Renderer<'a> {
 }
 
 impl<'a> Renderer<'a> {
-    fn push_styled(&self, out: &mut String, style: Style, text: &str) -> Result<(), AllocError> {
+    /// Appends a text in a style.
+    pub fn push_styled(
+        &self,
+        out: &mut String,
+        style: Style,
+        text: &str,
+    ) -> Result<(), AllocError> {
         if self.is_colored {
             out.push_str(style.code())?;
-            push_text(out, text)?;
-            out.push_str(PLAIN)
-        } else {
-            push_text(out, text)
         }
+        push_text(out, text)?;
+        if self.is_colored {
+            out.push_str(PLAIN)?;
+        }
+        Ok(())
     }
 
-    // `file:line:column: kind: message`
-    fn push_head(
+    // The place that a part of the text begins at.
+    fn place(&self, span: Span) -> Place
+        ensures { 1 ≤ result.column }
+    {
+        self.lines.place(span.start.min(self.lines.text.len()))
+    }
+
+    /// How many digits the number of the line has that a part of the text begins on.
+    pub fn digits(&self, span: Span) -> usize {
+        let mut number = self.place(span).line;
+        let mut digits = 1usize;
+        for _ in 0..20 {
+            if number < 10 {
+                break;
+            }
+            number /= 10;
+            digits = digits.saturating_add(1);
+        }
+        digits
+    }
+
+    /// Appends `file:line:column: kind: message` and a newline, the kind in a style.
+    pub fn push_head(
         &self,
         out: &mut String,
         span: Span,
@@ -90,9 +143,7 @@ impl<'a> Renderer<'a> {
         message: &str,
     ) -> Result<(), AllocError> {
         let name = self.name;
-        let place = self.lines.place(span.start.min(self.lines.text.len()));
-        let line = place.line;
-        let column = place.column;
+        let Place { line, column } = self.place(span);
         let head = format!(in self.alloc; "{name}:{line}:{column}:")?;
         self.push_styled(out, Style::Place, head.as_str())?;
         out.push(' ')?;
@@ -104,25 +155,34 @@ impl<'a> Renderer<'a> {
         out.push('\n')
     }
 
-    /// Appends the line that a part of the text begins on, with its number, and carets under the
-    /// part, as far as it is on that line, with words behind them. Of a long line it shows the
-    /// surroundings, with `…` where it is cut.
+    // Appends what stands before a line: its number, or nothing, in so many digits, and a bar.
+    fn push_gutter(&self, out: &mut String, number: &str, digits: usize) -> Result<(), AllocError> {
+        let mut gutter = String::new(self.alloc);
+        gutter.push(' ')?;
+        push_repeated(&mut gutter, ' ', digits.saturating_sub(number.len()))?;
+        gutter.push_str(number)?;
+        gutter.push_str(" |")?;
+        self.push_styled(out, Style::Gutter, gutter.as_str())?;
+        out.push(' ')
+    }
+
+    /// Appends the line that a part of the text begins on, with its number in so many digits, and
+    /// carets under the part, as far as it is on that line, with words behind them. Of a long line it
+    /// shows the surroundings, with `…` where it is cut.
     pub fn push_excerpt(
         &self,
         out: &mut String,
+        digits: usize,
         span: Span,
-        style: Style,
-        words: &str,
+        caret: (Style, &str),
     ) -> Result<(), AllocError> {
-        let place = self.lines.place(span.start.min(self.lines.text.len()));
-        let number = place.line;
-        let line = without_return(self.lines.line(number));
+        let place = self.place(span);
+        let line = without_return(self.lines.line(place.line));
         let at = (place.column - 1).min(line.len());
         let (start, end) = window(line, at);
         let marked_end = at + (span.end - span.start).min(end - at);
-        let label = format!(in self.alloc; " {number} | ")?;
-        let margin = label.as_str().len();
-        out.push_str(label.as_str())?;
+        let number = place.line.to_string(self.alloc)?;
+        self.push_gutter(out, number.as_str(), digits)?;
         let mut column = 0;
         if start > 0 {
             out.push_str(CUT)?;
@@ -135,26 +195,27 @@ impl<'a> Renderer<'a> {
             out.push_str(CUT)?;
         }
         out.push('\n')?;
-        push_repeated(out, ' ', margin.saturating_sub(2))?;
-        out.push_str("| ")?;
+        self.push_gutter(out, "", digits)?;
         push_repeated(out, ' ', from)?;
-        self.push_carets(out, to.saturating_sub(from).max(1), style)?;
-        if !words.is_empty() {
-            out.push(' ')?;
-            push_text(out, words)?;
-        }
-        out.push('\n')
+        self.push_carets(out, to.saturating_sub(from).max(1), caret)
     }
 
-    fn push_carets(&self, out: &mut String, count: usize, style: Style) -> Result<(), AllocError> {
-        if self.is_colored {
-            out.push_str(style.code())?;
+    // Appends so many carets, and words behind them.
+    fn push_carets(
+        &self,
+        out: &mut String,
+        count: usize,
+        caret: (Style, &str),
+    ) -> Result<(), AllocError> {
+        let (style, words) = caret;
+        let mut carets = String::new(self.alloc);
+        push_repeated(&mut carets, '^', count)?;
+        if !words.is_empty() {
+            carets.push(' ')?;
+            carets.push_str(words)?;
         }
-        push_repeated(out, '^', count)?;
-        if self.is_colored {
-            out.push_str(PLAIN)?;
-        }
-        Ok(())
+        self.push_styled(out, style, carets.as_str())?;
+        out.push('\n')
     }
 
     /// Appends a mistake: its place and message, the line with carets below, the other place in the
@@ -169,10 +230,10 @@ impl<'a> Renderer<'a> {
         let word = format!(in self.alloc; "{severity}")?;
         let message = diagnostic.message.as_str();
         self.push_head(out, diagnostic.span, (style, word.as_str()), message)?;
-        self.push_excerpt(out, diagnostic.span, style, "")?;
+        self.push_excerpt(out, self.digits(diagnostic.span), diagnostic.span, (style, ""))?;
         if let Some(note) = &diagnostic.note {
             self.push_head(out, note.span, (Style::Note, "note"), note.message.as_str())?;
-            self.push_excerpt(out, note.span, Style::Note, "")?;
+            self.push_excerpt(out, self.digits(note.span), note.span, (Style::Note, ""))?;
         }
         if let Some(help) = &diagnostic.help {
             self.push_styled(out, Style::Help, "help:")?;

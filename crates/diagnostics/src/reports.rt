@@ -1,3 +1,5 @@
+//! Mistakes as they are collected.
+
 use crate::{Diagnostic, nearest_name};
 use source::Span;
 use std::alloc::{AllocError, Global};

@@ -1,3 +1,5 @@
+//! The lines of a text, found once, and the line and column of each place.
+
 ghost use Rattle.std.specs.Prelude.{◌≡◌, ◌≢◌, ℕ, ◌+◌, ◌-◌, ◌≤◌, ◌<◌, ◌==◌, length, take, count_by, slice_index, vec_len, IfOk};
 ghost use Rattle.source.specs.Lines.{BeginsLine, newlines};
 

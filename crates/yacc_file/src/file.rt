@@ -1,3 +1,5 @@
+//! The declarations and rules of a file, as they are written.
+
 ghost use Rattle.std.specs.Prelude.{◌≡◌, [], All};
 ghost use Rattle.indexmap.specs.IndexSet.{index_set_len};
 ghost use Rattle.yacc_file.specs.Words.{NameFits};
@@ -9,8 +11,8 @@ use indexmap::IndexSet;
 use source::Span;
 use std::alloc::{AllocError, Global};
 
-/// A name that stands for a token: a string that `%token` gives to it, or the name of the token with
-/// number 0, which stands for `$end`.
+/// A name that stands for a token: a string that `%token` gives to it, or the name of a token with
+/// number 0 or 256, which stands for `$end` or `error`.
 #[derive(Clone, Copy, Debug, PartialEq, Eq)]
 pub struct Alias {
     pub text: Name,
@@ -20,6 +22,8 @@ pub struct Alias {
 /// The tokens of a `%left` or its like: one level of precedence.
 #[derive(Debug, Drop)]
 pub struct Group {
+    /// The directive.
+    pub span: Span,
     pub associativity: Associativity,
     pub names: Vec<Name>,
 }
@@ -101,6 +105,30 @@ impl File {
             Some(text) => text.as_str(),
             None => "",
         }
+    }
+
+    /// Adds a token behind the others.
+    pub fn add_token(&mut self, name: Name) -> Result<(), AllocError>
+        requires { NameFits (index_set_len self.old.names) name }
+        ensures names { self.new.names ≡ self.old.names }
+    {
+        self.tokens.push(name)?;
+        Ok(())
+    }
+
+    /// Adds an alias behind the others.
+    pub fn add_alias(&mut self, alias: Alias) -> Result<(), AllocError>
+        requires { AliasFits (index_set_len self.old.names) alias }
+        ensures names { self.new.names ≡ self.old.names }
+    {
+        self.aliases.push(alias)?;
+        Ok(())
+    }
+
+    /// Whether a token or a rule has a name.
+    pub fn declares(&self, id: usize) -> bool {
+        self.tokens.iter().any(|name| name.id == id)
+            || self.rules.iter().any(|rule| rule.left.id == id)
     }
 
     /// Adds names that have a type.

@@ -1,10 +1,12 @@
+//! From tokens to declarations and rules.
+
 ghost use Rattle.std.specs.Prelude.{◌≡◌, ◌<◌, ◌≤◌, All, vec_len, IfSome, OnSome, IfOk};
 ghost use Rattle.std.specs.Option.{ForSome};
 ghost use Rattle.indexmap.specs.IndexSet.{index_set_len};
 ghost use Rattle.yacc_file.specs.Words.{NameFits, WordFits};
 ghost use Rattle.yacc_file.specs.Syntax.{AlternativeFits, RuleFits};
 
-use crate::{Alias, Alternative, END_NAME, File, Group, Item, Name, Rule, Word, Words};
+use crate::{Alias, Alternative, END_NAME, ERROR_NAME, File, Group, Item, Name, Rule, Word, Words};
 use diagnostics::{Diagnostic, Reports};
 use grammar::Associativity;
 use indexmap::IndexSet;
@@ -30,7 +32,19 @@ fn joined(first: Span, last: Span) -> Span {
 // The number that a name says, if it does.
 fn number_named(names: &IndexSet<String>, id: usize) -> Option<usize> {
     let name = names.get_index(id)?;
-    name.as_str().parse::<usize>().ok()
+    match name.as_str().strip_prefix("0x") {
+        Some(digits) => usize::from_str_radix(digits, 16).ok(),
+        None => name.as_str().parse::<usize>().ok(),
+    }
+}
+
+// The symbol that each parser has under a number of a token.
+fn reserved_name(code: usize) -> Option<usize> {
+    match code {
+        0 => Some(END_NAME),
+        256 => Some(ERROR_NAME),
+        _ => None,
+    }
 }
 
 // The tokens, of which the last `left` are left, and what was read of those before them.
@@ -90,12 +104,21 @@ impl Parser {
                     && self.kind_at(2) == Some(TokenKind::Colon))
     }
 
-    // Where the last token is.
-    fn last_span(&self) -> Span {
-        match self.words.last() {
-            Some(word) => word.name.span,
-            None => Span { start: 0, end: 0 },
-        }
+    fn add_token(&mut self, name: Name) -> Result<(), AllocError>
+        requires { NameFits (index_set_len self.old.file.names) name }
+        ensures left { self.new.left ≡ self.old.left }
+        ensures names { self.new.file.names ≡ self.old.file.names }
+    {
+        self.file.add_token(name)
+    }
+
+    fn add_alias(&mut self, text: Name, token: Name) -> Result<(), AllocError>
+        requires text { NameFits (index_set_len self.old.file.names) text }
+        requires token { NameFits (index_set_len self.old.file.names) token }
+        ensures left { self.new.left ≡ self.old.left }
+        ensures names { self.new.file.names ≡ self.old.file.names }
+    {
+        self.file.add_alias(Alias { text, token })
     }
 
     fn add_rule(&mut self, rule: Rule) -> Result<(), AllocError>
@@ -181,11 +204,14 @@ impl Parser {
         self.error(directive.name.span, message.as_str(), help)
     }
 
-    // Says that a directive has nothing behind it.
+    // Says that a directive has nothing behind it. What is there and cannot be read is said elsewhere.
     fn lacks(&mut self, directive: Word, what: &str) -> Result<(), AllocError>
         ensures left { self.new.left ≡ self.old.left }
         ensures file { self.new.file ≡ self.old.file }
     {
+        if let Some(TokenKind::Wrong(_)) = self.kind_at(0) {
+            return Ok(());
+        }
         let text = self.file.text(directive.name);
         let message = format!(in self.alloc; "{what} is expected behind `{text}`")?;
         self.error(directive.name.span, message.as_str(), "")
@@ -232,13 +258,22 @@ impl Parser {
         }
     }
 
-    // Whether a word is the number 0.
-    fn is_zero(&self, word: Word) -> bool {
-        word.kind == TokenKind::Number && number_named(&self.file.names, word.name.id) == Some(0)
+    // The symbol that each parser has under a token's number.
+    fn reserved(&self, word: Word) -> Option<Name>
+        ensures { ForSome result (NameFits (index_set_len self.now.file.names)) }
+    {
+        let id = reserved_name(number_named(&self.file.names, word.name.id)?)?;
+        if id >= self.file.names.len() {
+            return None;
+        }
+        Some(Name {
+            id,
+            span: word.name.span,
+        })
     }
 
-    // The names behind `%token`, and what stands for them: strings, and for `$end` the name of the
-    // token with number 0.
+    // The names behind `%token`, and the strings that stand for them. The token with number 0 stands
+    // for `$end`, and the one with 256 for `error`.
     fn tokens(&mut self, directive: Word) -> Result<(), AllocError>
         ensures left { self.new.left ≤ self.old.left }
         ensures names { self.new.file.names ≡ self.old.file.names }
@@ -249,27 +284,17 @@ impl Parser {
             is_empty = false;
             match (word.kind, last) {
                 (TokenKind::Text, Some(token)) => {
-                    self.file.aliases.push(Alias {
-                        text: word.name,
-                        token,
-                    })?;
+                    self.add_alias(word.name, token)?;
                     last = None;
                 }
                 (TokenKind::Number, Some(token)) => {
-                    if self.is_zero(word) {
-                        let end = Name {
-                            id: END_NAME,
-                            span: word.name.span,
-                        };
-                        self.file.aliases.push(Alias {
-                            text: token,
-                            token: end,
-                        })?;
-                        last = Some(end);
+                    if let Some(reserved) = self.reserved(word) {
+                        self.add_alias(token, reserved)?;
+                        last = Some(reserved);
                     }
                 }
                 (TokenKind::Name | TokenKind::Character | TokenKind::Text, _) => {
-                    self.file.tokens.push(word.name)?;
+                    self.add_token(word.name)?;
                     last = Some(word.name);
                 }
                 _ => {}
@@ -307,6 +332,7 @@ impl Parser {
     {
         let names = self.symbols(directive)?;
         self.file.groups.push(Group {
+            span: directive.name.span,
             associativity,
             names,
         })?;
@@ -404,8 +430,21 @@ impl Parser {
                 }
             }
         }
+        self.no_rules()
+    }
+
+    // Says that there is no `%%`, unless what is not closed may hold it.
+    fn no_rules(&mut self) -> Result<(), AllocError>
+        ensures left { self.new.left ≡ self.old.left }
+        ensures file { self.new.file ≡ self.old.file }
+    {
+        let span = match self.words.last() {
+            Some(word) if matches!(word.kind, TokenKind::Wrong(_)) => return Ok(()),
+            Some(word) => word.name.span,
+            None => Span { start: 0, end: 0 },
+        };
         let help = "write `%%` on a line of its own, and the rules behind it";
-        self.error(self.last_span(), "this file has no `%%`, and so no rules", help)
+        self.error(span, "this file has no `%%`, and so no rules", help)
     }
 
     // Whether an alternative ends before a word.
@@ -566,6 +605,21 @@ impl Parser {
         self.add_rule(Rule { left, alternatives })
     }
 
+    // Lets a name that parsers of bison have stand for a symbol, where the file does not declare it.
+    fn predefine(&mut self, text: &str, reserved: usize) -> Result<(), AllocError>
+        ensures left { self.new.left ≡ self.old.left }
+        ensures names { self.new.file.names ≡ self.old.file.names }
+    {
+        let Some(id) = self.file.names.get_index_of(text) else {
+            return Ok(());
+        };
+        if reserved >= self.file.names.len() || self.file.declares(id) {
+            return Ok(());
+        }
+        let span = Span { start: 0, end: 0 };
+        self.add_alias(Name { id, span }, Name { id: reserved, span })
+    }
+
     // Says why no rule begins with a word.
     fn no_rule(&mut self, word: Word) -> Result<(), AllocError>
         ensures left { self.new.left ≡ self.old.left }
@@ -581,7 +635,7 @@ impl Parser {
             _ => "a rule is expected here: a name and `:`",
         };
         let help = match word.kind {
-            TokenKind::Name => "write `:` behind it; if it goes on with the rule before, take away the `;`",
+            TokenKind::Name => "write `:` behind it, or take away the `;` before it if it goes on with that rule",
             TokenKind::Code | TokenKind::Bar => "the rule before has ended: take away the `;`",
             _ => "",
         };
@@ -657,6 +711,8 @@ pub fn parse(alloc: Global, words: Words) -> Result<Parsed, AllocError>
     };
     parser.declarations()?;
     parser.rules()?;
+    parser.predefine("YYEOF", END_NAME)?;
+    parser.predefine("YYerror", ERROR_NAME)?;
     Ok(Parsed {
         file: parser.file,
         diagnostics: parser.reports.diagnostics,

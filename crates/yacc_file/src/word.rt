@@ -1,3 +1,5 @@
+//! The tokens of a file with their names, each name once.
+
 ghost use Rattle.std.specs.Prelude.{◌≡◌, ◌<◌, ◌≤◌, [], ◌∷◌, ◌++◌, All, length, IfOk, OnOk, OnErr};
 ghost use Rattle.indexmap.specs.IndexSet.{index_set_len};
 ghost use Rattle.yacc_file.specs.Words.{WordFits, AreInOrder, IsAt};

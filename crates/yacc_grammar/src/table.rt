@@ -1,3 +1,5 @@
+//! A grammar in the making, and what the names of its file stand for.
+
 ghost use Rattle.std.specs.Prelude.{◌≡◌, ◌<◌, ◌≤◌, ◌++◌, ◌∷◌, [], All, Some, vec_len, length, map, OnOk, OnErr, IfOk, IfSome};
 ghost use Rattle.grammar.specs.Symbols.{SymbolFits, LevelFits, ProductionFits};
 ghost use Rattle.yacc_grammar.specs.Symbols.{EntryFits, symbol_of, entry_of};
@@ -16,6 +18,8 @@ pub const ACCEPT: usize = 0;
 pub struct Table {
     pub grammar: Grammar,
     pub symbols: Vec<Option<Symbol>>,
+    /// The name that production 0 begins with.
+    pub start: usize,
     ghost in_range: { All (EntryFits (vec_len grammar.terminals) (vec_len grammar.nonterminals)) symbols.items },
     ghost has_end: { 0 < vec_len grammar.terminals },
     ghost has_accept: { 0 < vec_len grammar.nonterminals },
@@ -38,7 +42,11 @@ impl Table {
                 _ => None,
             })?;
         }
-        Ok(Table { grammar, symbols })
+        Ok(Table {
+            grammar,
+            symbols,
+            start: END_NAME,
+        })
     }
 
     /// What a name stands for, if it is known.
