@@ -1,5 +1,5 @@
 -- What it is to be the grammar of a file.
-use Rattle.std.specs.Prelude.{◌≡◌, ℕ, List, [], ◌∷◌, ◌++◌, Option, Some, All, Contains, MatchBool, map, option_map, slice_get, slice_index, string_bytes}
+use Rattle.std.specs.Prelude.{◌≡◌, ℕ, List, [], ◌∷◌, ◌++◌, Option, None, Some, All, Contains, MatchBool, map, option_map, slice_get, slice_index, string_bytes}
 use Rattle.grammar.specs.Symbols.{name_of}
 use Rattle.grammar.specs.declared.grammar.Grammar.{Grammar}
 use Rattle.grammar.specs.declared.symbol.Symbol.{Symbol}
@@ -9,6 +9,9 @@ use Rattle.yacc_file.specs.declared.file.Alternative.{Alternative}
 use Rattle.yacc_file.specs.declared.file.File.{File}
 use Rattle.yacc_file.specs.declared.file.Item.{Item}
 use Rattle.yacc_file.specs.declared.file.Rule.{Rule}
+use Rattle.yacc_file.specs.declared.word.Name.{Name}
+use Rattle.yacc_grammar.specs.declared.start.Start.{Start}
+use Rattle.yacc_grammar.specs.declared.start.Start.TheVariants.{Found, Missing, Unknown}
 use Rattle.yacc_grammar.specs.Symbols.{entry_of, symbol_of, item_symbol, forms_of, forms_of_rules, forms_of_actions, actions_of}
 
 -- the file's name of this number is spelled so
@@ -65,3 +68,21 @@ pub record IsGrammarOf (file : File) (start : ℕ) (symbols : List (Option Symbo
   pub begins : IsNonterminal (symbol_of symbols start)
   pub owners : List ℕ
   pub named : All (RuleIsNamed file symbols owners grammar) file.rules.items
+
+abbrev pub first_rule : List Rule → Option ℕ
+first_rule [] = None
+first_rule (r ∷ rs) = Some r.left.id
+
+abbrev pub first_of : List Name → List Rule → Option ℕ
+first_of [] rules = first_rule rules
+first_of (n ∷ ns) rules = Some n.id
+
+-- what `%start` names, or else the first rule's name
+abbrev pub start_of : File → Option ℕ
+start_of file = first_of file.starts.items file.rules.items
+
+-- if a start was found, it is this name
+abbrev pub IsFoundAs : Option ℕ → Start → Type 0
+IsFoundAs wanted (Found name) = wanted ≡ Some name.id
+IsFoundAs wanted Missing = Unit {0}
+IsFoundAs wanted (Unknown u) = Unit {0}

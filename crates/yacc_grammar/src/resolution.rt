@@ -1,8 +1,8 @@
 //! The grammar of a file.
 
-ghost use Rattle.std.specs.Prelude.{◌≡◌, ◌<◌, [], IfOk, vec_len};
+ghost use Rattle.std.specs.Prelude.{◌≡◌, IsNone, Some, IfOk, vec_len};
 ghost use Rattle.std.specs.Option.{ForSome};
-ghost use Rattle.yacc_grammar.specs.GrammarOf.{IsGrammarOf};
+ghost use Rattle.yacc_grammar.specs.GrammarOf.{IsGrammarOf, start_of};
 
 use crate::actions::list_actions;
 use crate::checks::check;
@@ -54,11 +54,11 @@ fn produce(
     start: usize,
 ) -> Result<Option<Table>, AllocError>
     requires { vec_len table.grammar.productions ≡ 0 }
-    ensures { IfOk result (λ r. ForSome r
+    ensures grammar { IfOk result (λ r. ForSome r
         (λ t. IsGrammarOf file.now t.start t.symbols.items t.grammar)) }
+    ensures start { IfOk result (λ r. ForSome r (λ t. t.start ≡ start)) }
 {
     let mut table = table;
-    table.start = start;
     let Symbol::Nonterminal(number) = table.symbol(start) else {
         return Ok(None);
     };
@@ -68,6 +68,7 @@ fn produce(
     add_actions(alloc, &mut table, actions.as_slice())?;
     let witness = Witness::new(alloc, file, &table)?;
     if are_named(file, &table, &witness) {
+        table.start = start;
         Ok(Some(table))
     } else {
         Ok(None)
@@ -83,8 +84,9 @@ fn checked(
     reports: &mut Reports,
 ) -> Result<Option<Table>, AllocError>
     requires { vec_len table.grammar.productions ≡ 0 }
-    ensures { IfOk result (λ r. ForSome r
+    ensures grammar { IfOk result (λ r. ForSome r
         (λ t. IsGrammarOf file.now t.start t.symbols.items t.grammar)) }
+    ensures start { IfOk result (λ r. ForSome r (λ t. t.start ≡ start.id)) }
 {
     match produce(alloc, file, table, start.id)? {
         Some(table) => {
@@ -107,8 +109,10 @@ pub fn grammar_of(
     file: &File,
     start: Option<&str>,
 ) -> Result<Resolution, AllocError>
-    ensures { IfOk result (λ r. ForSome r.table
+    ensures grammar { IfOk result (λ r. ForSome r.table
         (λ t. IsGrammarOf file.now t.start t.symbols.items t.grammar)) }
+    ensures start { IsNone start.entry
+        → IfOk result (λ r. ForSome r.table (λ t. start_of file.now ≡ Some t.start)) }
 {
     let mut definer = define(alloc, file)?;
     let found = definer.start(file, start)?;

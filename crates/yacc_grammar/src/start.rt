@@ -1,5 +1,8 @@
 //! The name that the whole input stands for.
 
+ghost use Rattle.std.specs.Prelude.{◌≡◌, IsNone, Some, IfOk};
+ghost use Rattle.yacc_grammar.specs.GrammarOf.{IsFoundAs, first_rule, start_of};
+
 use crate::define::{Definer, is_symbol};
 use diagnostics::Diagnostic;
 use grammar::Symbol;
@@ -36,7 +39,9 @@ impl Definer {
     }
 
     // The name of a rule that is perhaps meant.
-    fn rule_meant(&mut self, file: &File, text: &str) -> Result<Option<String>, AllocError> {
+    fn rule_meant(&mut self, file: &File, text: &str) -> Result<Option<String>, AllocError>
+        ensures { self.new.table ≡ self.old.table }
+    {
         let names = self.rule_names(file)?;
         match self.reports.meant(text, names.as_slice())? {
             Some(other) => Ok(Some(String::from_str(self.alloc, other)?)),
@@ -45,7 +50,9 @@ impl Definer {
     }
 
     // A start that the caller asks for.
-    fn chosen_start(&mut self, file: &File, text: &str) -> Result<Start, AllocError> {
+    fn chosen_start(&mut self, file: &File, text: &str) -> Result<Start, AllocError>
+        ensures { self.new.table ≡ self.old.table }
+    {
         if is_symbol(text)
             && let Some(id) = file.names.get_index_of(text)
             && let Some(Symbol::Nonterminal(_)) = self.table.entry(id)
@@ -61,7 +68,10 @@ impl Definer {
     }
 
     // A start that `%start` names.
-    fn declared_start(&mut self, file: &File, name: Name) -> Result<Start, AllocError> {
+    fn declared_start(&mut self, file: &File, name: Name) -> Result<Start, AllocError>
+        ensures table { self.new.table ≡ self.old.table }
+        ensures found { IfOk result (IsFoundAs (Some name.id)) }
+    {
         let text = file.text(name);
         match self.table.entry(name.id) {
             Some(Symbol::Nonterminal(_)) => return Ok(Start::Found(name)),
@@ -83,7 +93,10 @@ impl Definer {
     }
 
     // The first rule's name, where nothing else is said.
-    fn first_start(&mut self, file: &File) -> Result<Start, AllocError> {
+    fn first_start(&mut self, file: &File) -> Result<Start, AllocError>
+        ensures table { self.new.table ≡ self.old.table }
+        ensures found { IfOk result (IsFoundAs (first_rule file.now.rules.items)) }
+    {
         if let Some(rule) = file.rules.first() {
             return Ok(Start::Found(rule.left));
         }
@@ -96,7 +109,10 @@ impl Definer {
 
     /// The name to begin with: the one that is asked for, or else what `%start` says, or else the
     /// first rule's.
-    pub fn start(&mut self, file: &File, chosen: Option<&str>) -> Result<Start, AllocError> {
+    pub fn start(&mut self, file: &File, chosen: Option<&str>) -> Result<Start, AllocError>
+        ensures table { self.new.table ≡ self.old.table }
+        ensures declared { IsNone chosen.entry → IfOk result (IsFoundAs (start_of file.now)) }
+    {
         let declared = file.starts.first().copied();
         for name in file.starts.iter().skip(1) {
             let message = String::from_str(self.alloc, "the start is given twice")?;
