@@ -46,13 +46,14 @@ impl Reports {
     }
 
     /// The name that is perhaps meant by a misspelled one. After the first twenty such searches, or
-    /// where there are very many names, it finds none.
+    /// where there are very many names, it finds none any more.
     pub fn meant<'a>(
         &mut self,
         name: &str,
         names: &[&'a str],
     ) -> Result<Option<&'a str>, AllocError> {
         if self.hints == 0 || names.len() > self.comparisons {
+            self.hints = 0;
             return Ok(None);
         }
         self.hints -= 1;

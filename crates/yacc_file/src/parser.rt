@@ -217,23 +217,30 @@ impl Parser {
         self.error(directive.name.span, message.as_str(), "")
     }
 
-    // Leaves out words up to the next directive, `%%`, `;` or rule. What is not closed is said.
+    // Leaves out words up to the next directive, `%%`, `;` or rule. What is not closed is said, the
+    // first of such words in a row.
     fn skip(&mut self) -> Result<(), AllocError>
         ensures left { self.new.left ≤ self.old.left }
         ensures file { self.new.file ≡ self.old.file }
     {
+        let mut was_wrong = false;
         while let Some(word) = self.peek() {
+            let mut is_wrong = false;
             match word.kind {
                 TokenKind::Directive(_)
                 | TokenKind::Mark
                 | TokenKind::Prologue
                 | TokenKind::Semicolon => break,
                 TokenKind::Name if self.begins_rule() => break,
-                TokenKind::Wrong(fault) if fault != Fault::Strange => {
-                    self.faulty(word.name.span, fault)?
+                TokenKind::Wrong(fault) if fault.is_open() => {
+                    if !was_wrong {
+                        self.faulty(word.name.span, fault)?;
+                    }
+                    is_wrong = true;
                 }
                 _ => {}
             }
+            was_wrong = is_wrong;
             let _ = self.next();
         }
         Ok(())

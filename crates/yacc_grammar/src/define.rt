@@ -295,8 +295,8 @@ impl Definer {
         String::from_str(self.alloc, otherwise)
     }
 
-    // Makes a name that was not declared a terminal. A name should have been declared, a string should
-    // stand for a token, and a character stands for itself.
+    // Makes a name that was not declared a terminal. A name should have been declared, a string
+    // should stand for a token, and a character stands for itself.
     fn undeclared(&mut self, file: &File, name: Name) -> Result<(), AllocError> {
         let text = file.text(name);
         if !is_literal(text) {

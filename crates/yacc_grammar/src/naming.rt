@@ -180,8 +180,8 @@ fn rule_is_named(file: &File, table: &Table, witness: &Witness, rule: &Rule) -> 
     is_named(file, table, witness, rule.left.id) && is_nonterminal(table, rule.left.id)
 }
 
-/// Whether each rule is of a nonterminal, each name in a rule has a symbol that is called as the name
-/// is, and each action among symbols has a nonterminal of its own.
+/// Whether each rule is of a nonterminal, each name in a rule has a symbol that is called as the
+/// name is, and each action among symbols has a nonterminal of its own.
 pub fn are_named(file: &File, table: &Table, witness: &Witness) -> bool
     ensures { IsTrue result → All (RuleIsNamed file.now table.now.symbols.items
         witness.now.owners.items table.now.grammar) file.now.rules.items }

@@ -22,8 +22,8 @@ pub fn add_accept(alloc: Global, table: &mut Table, start: usize) -> Result<(), 
     table.add_production(Production::new(alloc, ACCEPT, right))
 }
 
-// The terminal whose precedence an alternative has, where `%prec` names one. Where tokens give their
-// rules none, the end of the input stands for it, which is on no level.
+// The terminal whose precedence an alternative has, where `%prec` names one. Where tokens give
+// their rules none, the end of the input stands for it, which is on no level.
 fn precedence_of(table: &Table, file: &File, alternative: &Alternative) -> Option<usize>
     ensures { ForSome result (λ t. t < vec_len table.now.grammar.terminals) }
 {

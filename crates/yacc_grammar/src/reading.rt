@@ -19,8 +19,8 @@ pub struct Reading {
     pub unknown_start: Option<UnknownStart>,
 }
 
-// All mistakes in the order of their places. Where there are errors, warnings are left out: they may
-// come of what could not be read.
+// All mistakes in the order of their places. Where there are errors, warnings are left out: they
+// may come of what could not be read.
 fn in_order(
     mut first: Vec<Diagnostic>,
     others: Vec<Diagnostic>,
@@ -35,8 +35,8 @@ fn in_order(
     Ok(first)
 }
 
-/// Reads the grammar of a yacc or bison file. It begins with the rule that is asked for, or else with
-/// the one that `%start` names, or else with the first.
+/// Reads the grammar of a yacc or bison file. It begins with the rule that is asked for, or else
+/// with the one that `%start` names, or else with the first.
 pub fn read_grammar(
     alloc: Global,
     text: &[u8],

@@ -19,8 +19,8 @@ use yacc_file::{File, Name};
 /// What was made of a file.
 #[derive(Drop)]
 pub struct Resolution {
-    /// The grammar, and the symbols of the file's names. There is none where the file has errors, or
-    /// has no such start.
+    /// The grammar, and the symbols of the file's names. There is none where the file has errors,
+    /// or has no such start.
     pub table: Option<Table>,
     /// What is wrong with the file.
     pub diagnostics: Vec<Diagnostic>,
@@ -101,9 +101,9 @@ fn checked(
     }
 }
 
-/// The grammar of a file, if the file has no errors: its productions are the alternatives in the order
-/// of the file, and each name in them has its symbol. It begins with the rule that is asked for, or
-/// else with the one that `%start` names, or else with the first.
+/// The grammar of a file, if the file has no errors: its productions are the alternatives in the
+/// order of the file, and each name in them has its symbol. It begins with the rule that is asked
+/// for, or else with the one that `%start` names, or else with the first.
 pub fn grammar_of(
     alloc: Global,
     file: &File,

@@ -12,15 +12,16 @@ use yacc_file::{END_NAME, ERROR_NAME, Item};
 /// The number of the nonterminal `$accept`, which production 0 is for.
 pub const ACCEPT: usize = 0;
 
-/// A grammar that grows, and of each name of the file, by its number, the symbol that it stands for,
-/// as far as it is known.
+/// A grammar that grows, and of each name of the file, by its number, the symbol that it stands
+/// for, as far as it is known.
 #[derive(Drop)]
 pub struct Table {
     pub grammar: Grammar,
     pub symbols: Vec<Option<Symbol>>,
     /// The name that production 0 begins with.
     pub start: usize,
-    ghost in_range: { All (EntryFits (vec_len grammar.terminals) (vec_len grammar.nonterminals)) symbols.items },
+    ghost in_range: { All (EntryFits (vec_len grammar.terminals) (vec_len grammar.nonterminals))
+        symbols.items },
     ghost has_end: { 0 < vec_len grammar.terminals },
     ghost has_accept: { 0 < vec_len grammar.nonterminals },
 }

@@ -24,6 +24,8 @@
 %left '*' '/'
 %precedence UNARY
 %right '^', "**"
+%no-default-prec
+%default-prec
 %start input
 %%
 
@@ -49,5 +51,6 @@ expr
 term: '!'
     ;
 expr: NUMBER term
+    | %?{ yes() } term YYEOF
 %%
 What stands behind is no grammar: { ' "

@@ -1,3 +1,27 @@
 %%
-list: nam0 nam1 nam2 nam3 nam4 nam5 nam6 nam7 nam8 nam9 nam10 nam11 nam12 nam13 nam14 nam15 nam16 nam17 nam18 nam19 nam20 nam21 nam22 nam23 nam24 ;
-name: ;
+list:
+    statement10
+    statement11
+    statement12
+    statement13
+    statement14
+    statement15
+    statement16
+    statement17
+    statement18
+    statement19
+    statement20
+    statement21
+    statement22
+    statement23
+    statement24
+    statement25
+    statement26
+    statement27
+    statement28
+    statement29
+    statement30
+    statement31
+    statement32
+    ;
+statement: ;

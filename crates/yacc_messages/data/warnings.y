@@ -7,6 +7,9 @@ list: A list
     | B B B
     | A { first(); } B
     | B B B  { again(); }
+    | B B B
+    | A B A
+    | A B A
     | %empty %prec HIHG
     ;
 never: A never ;
