@@ -167,8 +167,8 @@ impl<'a> Renderer<'a> {
     }
 
     /// Appends the line that a part of the text begins on, with its number in so many digits, and
-    /// carets under the part, as far as it is on that line, with words behind them. Of a long line it
-    /// shows the surroundings, with `…` where it is cut.
+    /// carets under the part, as far as it is on that line, with words behind them. Of a long line
+    /// it shows the surroundings, with `…` where it is cut.
     pub fn push_excerpt(
         &self,
         out: &mut String,

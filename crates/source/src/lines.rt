@@ -17,7 +17,8 @@ pub struct Place {
 pub struct Lines<'a> {
     pub text: &'a [u8],
     pub starts: Vec<usize>,
-    ghost begins: { (k : ℕ) → k < vec_len starts → BeginsLine text.now k (slice_index starts.items k) },
+    ghost begins: { (k : ℕ) → k < vec_len starts
+        → BeginsLine text.now k (slice_index starts.items k) },
     ghost all: { vec_len starts ≡ 1 + newlines text.now },
 }
 

@@ -204,7 +204,8 @@ impl Parser {
         self.error(directive.name.span, message.as_str(), help)
     }
 
-    // Says that a directive has nothing behind it. What is there and cannot be read is said elsewhere.
+    // Says that a directive has nothing behind it. What is there and cannot be read is said
+    // elsewhere.
     fn lacks(&mut self, directive: Word, what: &str) -> Result<(), AllocError>
         ensures left { self.new.left ≡ self.old.left }
         ensures file { self.new.file ≡ self.old.file }
@@ -279,8 +280,8 @@ impl Parser {
         })
     }
 
-    // The names behind `%token`, and the strings that stand for them. The token with number 0 stands
-    // for `$end`, and the one with 256 for `error`.
+    // The names behind `%token`, and the strings that stand for them. The token with number 0
+    // stands for `$end`, and the one with 256 for `error`.
     fn tokens(&mut self, directive: Word) -> Result<(), AllocError>
         ensures left { self.new.left ≤ self.old.left }
         ensures names { self.new.file.names ≡ self.old.file.names }
@@ -463,8 +464,8 @@ impl Parser {
         }
     }
 
-    // An alternative: up to the `|` or `;` behind it, or to what cannot stand in it. `opening` is the
-    // token before.
+    // An alternative: up to the `|` or `;` behind it, or to what cannot stand in it. `opening` is
+    // the token before.
     fn alternative(&mut self, opening: Span) -> Result<Alternative, AllocError>
         ensures fits { IfOk result (AlternativeFits (index_set_len self.old.file.names)) }
         ensures left { self.new.left ≤ self.old.left }
@@ -612,7 +613,8 @@ impl Parser {
         self.add_rule(Rule { left, alternatives })
     }
 
-    // Lets a name that parsers of bison have stand for a symbol, where the file does not declare it.
+    // Lets a name that parsers of bison have stand for a symbol, where the file does not declare
+    // it.
     fn predefine(&mut self, text: &str, reserved: usize) -> Result<(), AllocError>
         ensures left { self.new.left ≡ self.old.left }
         ensures names { self.new.file.names ≡ self.old.file.names }
@@ -642,7 +644,9 @@ impl Parser {
             _ => "a rule is expected here: a name and `:`",
         };
         let help = match word.kind {
-            TokenKind::Name => "write `:` behind it, or take away the `;` before it if it goes on with that rule",
+            TokenKind::Name => {
+                "write `:` behind it, or take away the `;` before it if it goes on with that rule"
+            }
             TokenKind::Code | TokenKind::Bar => "the rule before has ended: take away the `;`",
             _ => "",
         };
