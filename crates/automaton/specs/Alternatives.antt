@@ -9,8 +9,11 @@ use Rattle.automaton.specs.Items.{IsRule}
 abbrev pub lists_of : Vec (Vec ℕ Global) Global → List (List ℕ)
 lists_of lists = map (λ (list : Vec ℕ Global). list.items) lists.items
 
+abbrev pub alternatives_in : List (List ℕ) → ℕ → List ℕ
+alternatives_in lists n = slice_index_or lists n []
+
 abbrev pub alternatives_of : Alternatives → ℕ → List ℕ
-alternatives_of a n = slice_index_or (lists_of a.lists) n []
+alternatives_of a n = alternatives_in (lists_of a.lists) n
 
 -- of each nonterminal the list has its productions, and no others
 pub record AreAlternatives (g : Grammar) (a : Alternatives) : Type 0 where

@@ -28,8 +28,8 @@ fn may_be_empty(first: &FirstSets, symbol: Symbol) -> bool
     }
 }
 
-// Whether all may be empty.
-fn may_all_be_empty(first: &FirstSets, symbols: &[Symbol]) -> bool
+/// Whether all may be empty.
+pub fn may_all_be_empty(first: &FirstSets, symbols: &[Symbol]) -> bool
     requires { All (SymbolFits first.now.sets.columns (vec_len first.now.nullable)) symbols.now }
     ensures { IsTrue result ↔ AllNull first.now symbols.now }
 {
@@ -59,8 +59,8 @@ fn add_symbol(table: &mut BitTable, first: &FirstSets, row: usize, symbol: Symbo
     }
 }
 
-// Adds what begins the symbols to a row, and answers whether some of that is new.
-fn add_first(table: &mut BitTable, first: &FirstSets, row: usize, symbols: &[Symbol]) -> bool
+/// Adds what begins the symbols to a row, and answers whether some of that is new.
+pub fn add_first(table: &mut BitTable, first: &FirstSets, row: usize, symbols: &[Symbol]) -> bool
     requires row { row < table.old.rows }
     requires columns { first.now.sets.columns ≤ table.old.columns }
     requires symbols { All (SymbolFits first.now.sets.columns (vec_len first.now.nullable)) symbols.now }
