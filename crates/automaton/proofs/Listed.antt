@@ -20,6 +20,12 @@ on_ok_map (Err e) f h = tt
 pub contains_cases : {X : Type 0} (xs : List X) (i : ℕ) (d x : X) → i < length xs → Contains (take (i + 1) xs) x → Contains (take i xs) x ⊎ (get_or xs i d ≡ x)
 contains_cases xs i d x l h = Contains-push_cases (take i xs) (get_or xs i d) x (rw (take_more xs i d l) at h)
 
+pub earlier : {X : Type 0} (xs : List X) (i : ℕ) (d x : X) → i < length xs → Contains (take i xs) x → Contains (take (i + 1) xs) x
+earlier xs i d x l h = rw (take_more xs i d l) (Contains-append_left (take i xs) (get_or xs i d ∷ []) x h)
+
+pub here : {X : Type 0} (xs : List X) (i : ℕ) (d : X) → i < length xs → Contains (take (i + 1) xs) (get_or xs i d)
+here xs i d l = rw (take_more xs i d l) (Contains-push (take i xs) (get_or xs i d))
+
 pub rules_push : (entries : List Entry) (qs : List ℕ) (i left : ℕ) → i < length qs
     → ((q : ℕ) → Contains (take i qs) q → Contains entries (record { item = fresh q; tokens = left }))
     → (q : ℕ) → Contains (take (i + 1) qs) q → Contains (entries ++ record { item = fresh (get_or qs i 0); tokens = left } ∷ []) (record { item = fresh q; tokens = left })

@@ -1,5 +1,5 @@
 -- A list of each state's clashes misses none of the grammar's conflicts.
-use Rattle.std.proofs.Common.{◌≡◌, ℕ, ◌<◌, ◌⊎◌, inl, inr, Bool, true, false, cond, List, [], ◌∷◌, ◌++◌, refl, sym, ◌∙◌, Some, length, arith, rules, tests}
+use Rattle.std.proofs.Common.{◌≡◌, ℕ, ◌<◌, ◌⊎◌, inl, inr, Bool, true, false, cond, List, [], ◌∷◌, ◌++◌, refl, sym, subst, ◌∙◌, Some, length, arith, rules, tests}
 use Rattle.std.specs.Prelude.{Contains, IsTrue, map, filter, nat_lt, if◌then◌else◌}
 use Rattle.std.specs.List.{flat_map}
 use Rattle.std.proofs.lemmas.List.Elements.{Contains-append_left, Contains-append_right, Contains-append_cases, Contains-push_cases}
@@ -33,16 +33,16 @@ contains_cases y xs x h = elim (Contains-append_cases (y ∷ []) xs x h) [
 ]
 
 flat_map_contains : {X Y : Type 0} (f : X → List Y) (xs : List X) (x : X) (y : Y) → Contains xs x → Contains (f x) y → Contains (flat_map f xs) y
-flat_map_contains f [] x y h k = absurd (omega (arith, h.1))
-flat_map_contains f (z ∷ zs) x y h k = elim (contains_cases z zs x h) [
-  | inl e ↦ rw e (Contains-append_left (f x) (flat_map f zs) y k)
+flat_map_contains {X} f [] x y h k = absurd (omega (arith, h.1))
+flat_map_contains {X} f (z ∷ zs) x y h k = elim (contains_cases z zs x h) [
+  | inl e ↦ subst (λ (v : X). Contains (f v ++ flat_map f zs) y) (sym e) (Contains-append_left (f x) (flat_map f zs) y k)
   | inr m ↦ Contains-append_right (f z) (flat_map f zs) y (flat_map_contains f zs x y m k)
 ]
 
 map_contains : {X Y : Type 0} (f : X → Y) (xs : List X) (x : X) → Contains xs x → Contains (map f xs) (f x)
-map_contains f [] x h = absurd (omega (arith, h.1))
-map_contains f (z ∷ zs) x h = elim (contains_cases z zs x h) [
-  | inl e ↦ rw e (contains_head (f x) (map f zs))
+map_contains {X} f [] x h = absurd (omega (arith, h.1))
+map_contains {X} f (z ∷ zs) x h = elim (contains_cases z zs x h) [
+  | inl e ↦ subst (λ (y : X). Contains (f y ∷ map f zs) (f x)) (sym e) (contains_head (f x) (map f zs))
   | inr m ↦ contains_tail (f z) (map f zs) (f x) (map_contains f zs x m)
 ]
 

@@ -1,8 +1,7 @@
-ghost use Rattle.std.specs.Prelude.{◌≡◌, ℕ, ◌↔◌, ◌⊎◌, Contains, IsTrue, IfOk, OnOk};
+ghost use Rattle.std.specs.Prelude.{◌↔◌, Contains, IsTrue, IfOk, OnOk};
 ghost use Rattle.automaton.specs.declared.item.Item.{Item};
 ghost use Rattle.automaton.specs.Alternatives.{AreAlternatives};
-ghost use Rattle.automaton.specs.Items.{fresh};
-ghost use Rattle.automaton.specs.Reading.{IsItem, Reads};
+ghost use Rattle.automaton.specs.Reading.{IsItem, Reads, ReadsFrom, HasToo};
 ghost use Rattle.automaton.specs.States.{kernel_of};
 
 use crate::{Alternatives, Automaton, Item, behind_dots, reachable, rest};
@@ -54,8 +53,7 @@ fn add_reading(
     token: usize,
     found: &mut Vec<Item>,
 ) -> Result<(), AllocError>
-    ensures { OnOk result ((i : Item) → Contains found.new.items i ↔ (Contains found.old.items i
-        ⊎ ((q : ℕ) × Contains productions.now q × (i ≡ fresh q) × Reads grammar.now i token))) }
+    ensures { OnOk result (HasToo found.old.items found.new.items (ReadsFrom grammar.now token productions.now)) }
 {
     for q in productions {
         let item = Item {

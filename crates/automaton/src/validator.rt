@@ -136,7 +136,7 @@ fn visit(
     if !all_move(grammar, automaton, state, table, entries.as_slice()) {
         return Ok(false);
     }
-    list_clashes(
+    let good = list_clashes(
         alloc,
         grammar,
         automaton,
@@ -144,7 +144,8 @@ fn visit(
         table,
         entries.as_slice(),
         clashes,
-    )
+    )?;
+    Ok(good)
 }
 
 /// The clashes of an automaton from anywhere: no conflict of the grammar is missing among their conflicts. `None` where

@@ -90,3 +90,6 @@ pub fn conflicts_of_grammar(
         None => Err(Failure::Refused),
     }
 }
+
+#[cfg(test)]
+mod tests;

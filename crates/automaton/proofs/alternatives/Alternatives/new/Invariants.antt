@@ -5,7 +5,7 @@ use Rattle.automaton.specs.Items.{IsRule, left_of}
 use Rattle.automaton.proofs.alternatives.Alternatives.new.Given as goal
 
 abbrev pub invariant-loop : goal.invariant-loop
-invariant-loop l = (vec_len l.lists ≡ l._) × All (λ list. list ≡ []) (lists_of l.lists)
+invariant-loop l = (vec_len l.lists ≡ l.counter) × All (λ list. list ≡ []) (lists_of l.lists)
 
 abbrev pub invariant-loop-q : goal.invariant-loop-q
 invariant-loop-q l = record {
