@@ -29,9 +29,11 @@ terminal_of p = given p.precedence
     given (Some t) = Some t
     given None = last_terminal None p.right.items
 
+abbrev pub production_terminal : Grammar → ℕ → Option ℕ
+production_terminal g p = option_and_then terminal_of (slice_get g.productions.items p)
+
 abbrev pub production_level : Grammar → ℕ → Option ℕ
-production_level g p =
-    option_and_then (level_of g) (option_and_then terminal_of (slice_get g.productions.items p))
+production_level g p = option_and_then (level_of g) (production_terminal g p)
 
 -- at one level
 abbrev pub by_associativity : Option Level → Choice

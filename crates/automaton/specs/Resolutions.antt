@@ -1,5 +1,5 @@
 -- How the conflicts of a clash come out, when precedence is asked of each production in turn, ascending (as bison does).
-use Rattle.std.specs.Prelude.{ℕ, ◌-◌, ◌&&◌, nat_lt, if◌then◌else◌, Bool, true, false, not, List, Option, Some, None, is_none, map, filter, length, sum_by, count_by}
+use Rattle.std.specs.Prelude.{ℕ, ◌≡◌, ◌⊎◌, ◌-◌, ◌&&◌, Contains, nat_lt, if◌then◌else◌, Bool, true, false, not, List, Option, Some, None, is_none, map, filter, length, sum_by, count_by}
 use Rattle.std.specs.List.{find, flat_map}
 use Rattle.grammar.specs.declared.grammar.Grammar.{Grammar}
 use Rattle.automaton.specs.declared.conflict.Clash.{Clash}
@@ -11,7 +11,7 @@ use Rattle.automaton.specs.declared.precedence.Choice.TheVariants.{KeepShift, Ke
 use Rattle.automaton.specs.declared.resolution.Resolution.{Resolution}
 use Rattle.automaton.specs.declared.resolution.Resolution.TheVariants.{Open, ShiftKept, ReductionKept, NeitherKept, ShiftGone, ReductionGone}
 use Rattle.automaton.specs.declared.resolution.Resolved.{Resolved}
-use Rattle.automaton.specs.Precedence.{choice_of}
+use Rattle.automaton.specs.Precedence.{choice_of, production_terminal}
 use Rattle.automaton.specs.Conflicts.{conflicts_of, conflicts_in}
 
 -- what precedence says of a production of a clash; nothing, where precedence is not used
@@ -71,6 +71,26 @@ resolved_of g used c = map (resolved g used c) (conflicts_of c)
 
 abbrev pub resolved_in : Grammar → Bool → List Clash → List Resolved
 resolved_in g used cs = flat_map (resolved_of g used) cs
+
+-- precedence itself says how it comes out
+abbrev pub is_by_precedence : Resolution → Bool
+is_by_precedence Open = false
+is_by_precedence ShiftKept = true
+is_by_precedence ReductionKept = true
+is_by_precedence NeitherKept = true
+is_by_precedence (ShiftGone q) = false
+is_by_precedence (ReductionGone q) = false
+
+-- it does so by the terminal: the token, or the one that the production has its precedence of
+pub record Uses (g : Grammar) (t : ℕ) (r : Resolved) : Type 0 where
+  pub settled : is_by_precedence r.resolution ≡ true
+  pub terminal : (r.conflict.token ≡ t) ⊎ (production_terminal g r.conflict.production ≡ Some t)
+
+-- one of the conflicts does
+pub record IsUsed (g : Grammar) (list : List Resolved) (t : ℕ) : Type 0 where
+  pub resolved : Resolved
+  pub listed : Contains list resolved
+  pub uses : Uses g t resolved
 
 -- ---- counted as bison counts
 

@@ -1,5 +1,5 @@
 ghost use Rattle.std.specs.Prelude.{◌≡◌, None};
-ghost use Rattle.automaton.specs.Precedence.{level_of, last_terminal, terminal_of, production_level, compare_levels, choice_of};
+ghost use Rattle.automaton.specs.Precedence.{level_of, last_terminal, terminal_of, production_terminal, production_level, compare_levels, choice_of};
 
 use grammar::{Associativity, Grammar, Level, Production, Symbol};
 
@@ -46,11 +46,18 @@ pub fn precedence_terminal(production: &Production) -> Option<usize>
     }
 }
 
+/// The terminal that a production has its precedence of, by the production's number.
+pub fn terminal_of_production(grammar: &Grammar, production: usize) -> Option<usize>
+    ensures { result ≡ production_terminal grammar.now production }
+{
+    precedence_terminal(grammar.productions.get(production)?)
+}
+
 /// The level of the production's precedence.
 pub fn level_of_production(grammar: &Grammar, production: usize) -> Option<usize>
     ensures { result ≡ production_level grammar.now production }
 {
-    let terminal = precedence_terminal(grammar.productions.get(production)?)?;
+    let terminal = terminal_of_production(grammar, production)?;
     level(grammar, terminal)
 }
 
