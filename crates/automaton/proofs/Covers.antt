@@ -110,9 +110,9 @@ module _ (g : Grammar) (f : FirstSets) (s : Alternatives) (t : BitTable) (own : 
       covers entries keeps rules i a d = elim (covered d) [
         | inl h ↦ record { entry = h.entry; listed = keeps h.entry h.listed; item = h.item; has = h.has }
         | inr h ↦ record {
-            entry = record { item = fresh h.rule; tokens = h.left };
-            listed = rules h.left h.rule h.met ((listed.exact h.left h.rule).1 h.is_rule);
-            item = sym h.item;
-            has = h.has;
-          }
+          entry = record { item = fresh h.rule; tokens = h.left };
+          listed = rules h.left h.rule h.met ((listed.exact h.left h.rule).1 h.is_rule);
+          item = sym h.item;
+          has = h.has;
+        }
       ]

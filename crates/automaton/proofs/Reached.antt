@@ -167,12 +167,12 @@ exploring_more g starts productions n before {reached = reached} popped exact ma
       marked = λ k h. keeps k (was.marked k h);
       waits = λ m h. elim (waits m h) [
         | inl k ↦ elim (was.waits m k) [
-            | inl w ↦ elim (Contains-push_cases before n m (rw popped at w)) [
-                | inl b ↦ inl (stays m b)
-                | inr e ↦ inr (rw (← e) (Contains-push reached n))
-              ]
-            | inr r ↦ inr (Contains-append_left reached (n ∷ []) m r)
+          | inl w ↦ elim (Contains-push_cases before n m (rw popped at w)) [
+            | inl b ↦ inl (stays m b)
+            | inr e ↦ inr (rw (← e) (Contains-push reached n))
           ]
+          | inr r ↦ inr (Contains-append_left reached (n ∷ []) m r)
+        ]
         | inr w ↦ inl w
       ];
       follows = λ k q m h rule lead. elim (Contains-push_cases reached n k h) [

@@ -47,9 +47,9 @@ from_push g t qs k {found} l reads was = record {
   ];
   only = λ i h. elim (Contains-push_cases found (fresh (get_or qs k 0)) i h) [
     | inl m ↦ elim (was.only i m) [
-        | inl first ↦ inl first
-        | inr r ↦ inr (record { production = r.production; listed = earlier qs k 0 r.production l r.listed; item = r.item; reads = r.reads })
-      ]
+      | inl first ↦ inl first
+      | inr r ↦ inr (record { production = r.production; listed = earlier qs k 0 r.production l r.listed; item = r.item; reads = r.reads })
+    ]
     | inr e ↦ inr (record { production = get_or qs k 0; listed = here qs k 0 l; item = sym e; reads = rw e at reads })
   ];
 }
@@ -78,9 +78,9 @@ entry_push g t entries k d {found} l reads was = record {
   ];
   only = λ i h. elim (Contains-push_cases found (get_or entries k d).item i h) [
     | inl m ↦ elim (was.only i m) [
-        | inl first ↦ inl first
-        | inr r ↦ inr (record { entry = r.entry; listed = earlier entries k d r.entry l r.listed; item = r.item; reads = r.reads })
-      ]
+      | inl first ↦ inl first
+      | inr r ↦ inr (record { entry = r.entry; listed = earlier entries k d r.entry l r.listed; item = r.item; reads = r.reads })
+    ]
     | inr e ↦ inr (record { entry = get_or entries k d; listed = here entries k d l; item = e; reads = rw e at reads })
   ];
 }
@@ -109,9 +109,9 @@ of_more g s t reached k l more was = record {
   ];
   only = λ i h. elim (more.only i h) [
     | inl m ↦ elim (was.only i m) [
-        | inl first ↦ inl first
-        | inr r ↦ inr (record { nonterminal = r.nonterminal; listed = earlier reached k 0 r.nonterminal l r.listed; from = r.from })
-      ]
+      | inl first ↦ inl first
+      | inr r ↦ inr (record { nonterminal = r.nonterminal; listed = earlier reached k 0 r.nonterminal l r.listed; from = r.from })
+    ]
     | inr r ↦ inr (record { nonterminal = get_or reached k 0; listed = here reached k 0 l; from = r })
   ];
 }
@@ -149,9 +149,9 @@ module _ (g : Grammar) (s : Alternatives) (kernel : List Entry) (starts reached 
     reading_to : (i : Item) → Contains found i → IsItem g kernel i × Reads g i t
     reading_to i h = elim (by_rules.only i h) [
       | inl k ↦ elim (by_kernel.only i k) [
-          | inl none ↦ absurd (omega (arith, none.1))
-          | inr r ↦ (rw (← r.item) (given r.listed), r.reads)
-        ]
+        | inl none ↦ absurd (omega (arith, none.1))
+        | inr r ↦ (rw (← r.item) (given r.listed), r.reads)
+      ]
       | inr r ↦ item_of t i r
     ]
 

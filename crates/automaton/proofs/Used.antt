@@ -24,9 +24,9 @@ uses_both g r u old mid new t on has first second = (
   λ h. elim h [
     | inl k ↦ second.1 (inl (first.1 (inl k)))
     | inr u' ↦ elim u'.terminal [
-        | inl e ↦ second.1 (inl (first.1 (inr (sym e))))
-        | inr e ↦ let both : Some u ≡ Some t = sym has ∙ e in let same : t ≡ u = cc in second.1 (inr same)
-      ]
+      | inl e ↦ second.1 (inl (first.1 (inr (sym e))))
+      | inr e ↦ let both : Some u ≡ Some t = sym has ∙ e in let same : t ≡ u = cc in second.1 (inr same)
+    ]
   ],
 )
 
@@ -37,9 +37,9 @@ uses_token g r old new t on none first = (
   λ h. elim h [
     | inl k ↦ first.1 (inl k)
     | inr u ↦ elim u.terminal [
-        | inl e ↦ first.1 (inr (sym e))
-        | inr e ↦ let bad : None ≡ Some t = sym none ∙ e in cc
-      ]
+      | inl e ↦ first.1 (inr (sym e))
+      | inr e ↦ let bad : None ≡ Some t = sym none ∙ e in cc
+    ]
   ],
 )
 

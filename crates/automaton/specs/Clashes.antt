@@ -43,7 +43,8 @@ abbrev pub ListsEach : Grammar → Automaton → List Clash → Type 0
 ListsEach g a list = (s : ℕ) → ListsState g a list s
 
 -- the same of one token, by the entries of a table
-pub record ListsToken (a : Automaton) (s : ℕ) (table : BitTable) (entries : List Entry) (list : List Clash) (t : ℕ) : Type 0 where
+pub record ListsToken (a : Automaton) (s : ℕ) (table : BitTable) (entries : List Entry)
+    (list : List Clash) (t : ℕ) : Type 0 where
   pub shift : (i : Item) (to : ℕ) → IsListed table entries i t
       → target_of a s (Terminal t) ≡ Some to → HasShift list s t i.production
   pub others : (i j : Item) → i.production < j.production → IsListed table entries i t

@@ -27,8 +27,10 @@ conflicts_in cs = flat_map conflicts_of cs
 
 -- ---- what may not be missed
 
--- the list has a conflict of the production, the token and the other action, in the state that γ leads to
-pub record Names (a : Automaton) (list : List Conflict) (γ : List Symbol) (t p : ℕ) (o : Other) : Type 0 where
+-- the list has a conflict of the production, the token and the other action, in the state that γ
+-- leads to
+pub record Names (a : Automaton) (list : List Conflict) (γ : List Symbol) (t p : ℕ)
+    (o : Other) : Type 0 where
   pub conflict : Conflict
   pub listed : Contains list conflict
   pub state : walk a γ 0 ≡ Some conflict.state

@@ -1,4 +1,5 @@
--- What precedence says of a production that may be reduced before a token that may be shifted, as POSIX says it of yacc.
+-- What precedence says of a production that may be reduced before a token that may be shifted, as
+-- POSIX says it of yacc.
 use Rattle.std.specs.Prelude.{ℕ, ◌==◌, nat_lt, if◌then◌else◌, List, [], ◌∷◌, Option, Some, None, option_and_then, position, slice_get}
 use Rattle.std.specs.List.{list_any}
 use Rattle.grammar.specs.declared.symbol.Symbol.{Symbol}
@@ -21,7 +22,8 @@ last_terminal before [] = before
 last_terminal before (Terminal t ∷ xs) = last_terminal (Some t) xs
 last_terminal before (Nonterminal n ∷ xs) = last_terminal before xs
 
--- the terminal that a production has its precedence of: that of %prec, else the last of its right side
+-- the terminal that a production has its precedence of: that of %prec, else the last of its right
+-- side
 abbrev pub terminal_of : Production → Option ℕ
 terminal_of p = given p.precedence
   where
@@ -51,7 +53,8 @@ abbrev pub compare_levels : List Level → Option ℕ → Option ℕ → Choice
 compare_levels levels None t = Undecided
 compare_levels levels (Some p) None = Undecided
 compare_levels levels (Some p) (Some t) =
-    if nat_lt t p then KeepReduction else (if nat_lt p t then KeepShift else by_associativity (slice_get levels t))
+    if nat_lt t p then KeepReduction
+    else (if nat_lt p t then KeepShift else by_associativity (slice_get levels t))
 
 abbrev pub choice_of : Grammar → ℕ → ℕ → Choice
 choice_of g p t = compare_levels g.levels.items (production_level g p) (level_of g t)

@@ -1,4 +1,5 @@
--- What is reached from nonterminals by the first symbols of their productions: the nonterminals of an LR(0) closure.
+-- What is reached from nonterminals by the first symbols of their productions: the nonterminals of
+-- an LR(0) closure.
 use Rattle.std.specs.Prelude.{ℕ, ◌≡◌, ◌+◌, true, false, not, Bool, List, [], ◌∷◌, Option, Some, None, slice_index_or, count_by, vec_len, Contains}
 use Rattle.grammar.specs.declared.symbol.Symbol.{Symbol}
 use Rattle.grammar.specs.declared.symbol.Symbol.TheVariants.{Terminal, Nonterminal}

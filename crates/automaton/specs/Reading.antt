@@ -10,7 +10,8 @@ use Rattle.automaton.specs.Items.{rest_of, fresh, IsRule}
 -- an item of the LR(0) closure of a kernel
 pub data IsItem (g : Grammar) (kernel : List Entry) : Item → Type 0 where
   given : {e : Entry} → Contains kernel e → IsItem g kernel e.item
-  added : {i : Item} (n q : ℕ) (β : List Symbol) → IsItem g kernel i → rest_of g i ≡ Nonterminal n ∷ β
+  added : {i : Item} (n q : ℕ) (β : List Symbol) → IsItem g kernel i
+      → rest_of g i ≡ Nonterminal n ∷ β
       → IsRule g q n → IsItem g kernel (fresh q)
 
 -- the token is behind the dot

@@ -1,4 +1,5 @@
--- How the conflicts of a clash come out, when precedence is asked of each production in turn, ascending (as bison does).
+-- How the conflicts of a clash come out, when precedence is asked of each production in turn,
+-- ascending (as bison does).
 use Rattle.std.specs.Prelude.{ℕ, ◌≡◌, ◌⊎◌, ◌-◌, ◌&&◌, Contains, nat_lt, if◌then◌else◌, Bool, true, false, not, List, Option, Some, None, is_none, map, filter, length, sum_by, count_by}
 use Rattle.std.specs.List.{find, flat_map}
 use Rattle.grammar.specs.declared.grammar.Grammar.{Grammar}
@@ -60,7 +61,8 @@ is_lost g used c p = c.shifts && loses (shift_resolution g used c p)
 abbrev pub resolution_of : Grammar → Bool → Clash → ℕ → Other → Resolution
 resolution_of g used c p Shift = shift_resolution g used c p
 resolution_of g used c p (Reduce q) =
-    if is_lost g used c p then ReductionGone p else (if is_lost g used c q then ReductionGone q else Open)
+    if is_lost g used c p then ReductionGone p
+    else (if is_lost g used c q then ReductionGone q else Open)
 
 abbrev pub resolved : Grammar → Bool → Clash → Conflict → Resolved
 resolved g used c x = record { conflict = x; resolution = resolution_of g used c x.production x.other }

@@ -1,4 +1,5 @@
--- Tokens that spread over the rows of a closure: a row for each nonterminal, and one for each item of the kernel.
+-- Tokens that spread over the rows of a closure: a row for each nonterminal, and one for each item
+-- of the kernel.
 use Rattle.std.specs.Prelude.{ℕ, ◌≡◌, ◌≤◌, ◌+◌, List, ◌∷◌, Some, vec_len, Contains}
 use Rattle.bit_table.specs.Table.{Has}
 use Rattle.bit_table.specs.declared.table.BitTable.{BitTable}
@@ -24,7 +25,8 @@ pub record IsSized (f : FirstSets) (t : BitTable) : Type 0 where
   pub rows : vec_len f.nullable ≤ t.rows
   pub columns : t.columns ≡ f.sets.columns + 1
 
--- the nonterminal's row has what an item with these symbols behind it, and the tokens of the item's row, give it
+-- the nonterminal's row has what an item with these symbols behind it, and the tokens of the item's
+-- row, give it
 pub record Gives (f : FirstSets) (t : BitTable) (row n : ℕ) (behind : List Symbol) : Type 0 where
   pub begun : (a : ℕ) → InFirst f behind a → Has t n a
   pub passed : AllNull f behind → (a : ℕ) → Has t row a → Has t n a
@@ -41,7 +43,8 @@ pub record IsSpreadAt (g : Grammar) (f : FirstSets) (t : BitTable) (e : Entry) :
 pub record IsSpreadFrom (g : Grammar) (f : FirstSets) (t : BitTable) (n q : ℕ) : Type 0 where
   pub spread : IsSpread f t n (rest_of g (fresh q))
 
-pub record AreSpread (g : Grammar) (f : FirstSets) (a : Alternatives) (t : BitTable) (n : ℕ) : Type 0 where
+pub record AreSpread (g : Grammar) (f : FirstSets) (a : Alternatives) (t : BitTable)
+    (n : ℕ) : Type 0 where
   pub spread : (q : ℕ) → Contains (alternatives_of a n) q → IsSpreadFrom g f t n q
 
 -- the nonterminal stands behind the dot of an item of the kernel

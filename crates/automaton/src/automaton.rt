@@ -26,7 +26,8 @@ pub struct State {
     pub transitions: Vec<Transition>,
 }
 
-/// States, and the tokens of their kernels' items. Nothing is promised of them: that is what the validator is for.
+/// States, and the tokens of their kernels' items. Nothing is promised of them: that is what the
+/// validator is for.
 #[derive(Debug, Drop)]
 pub struct Automaton {
     pub states: Vec<State>,

@@ -63,7 +63,8 @@ fn add_symbol(table: &mut BitTable, first: &FirstSets, row: usize, symbol: Symbo
 pub fn add_first(table: &mut BitTable, first: &FirstSets, row: usize, symbols: &[Symbol]) -> bool
     requires row { row < table.old.rows }
     requires columns { first.now.sets.columns ≤ table.old.columns }
-    requires symbols { All (SymbolFits first.now.sets.columns (vec_len first.now.nullable)) symbols.now }
+    requires symbols { All (SymbolFits first.now.sets.columns
+        (vec_len first.now.nullable)) symbols.now }
     ensures shape { SameShape table.old table.new }
     ensures keeps { KeepsBits table.old table.new }
     ensures adds { (t : ℕ) → InFirst first.now symbols.now t → Has table.new row t }
@@ -83,7 +84,8 @@ pub fn add_first(table: &mut BitTable, first: &FirstSets, row: usize, symbols: &
     changed
 }
 
-// Adds the tokens of one row to another where all symbols may be empty, and answers whether one of them is new.
+// Adds the tokens of one row to another where all symbols may be empty, and answers whether one of
+// them is new.
 fn add_passed(
     table: &mut BitTable,
     first: &FirstSets,
@@ -93,10 +95,12 @@ fn add_passed(
 ) -> bool
     requires into { into < table.old.rows }
     requires from { from < table.old.rows }
-    requires symbols { All (SymbolFits first.now.sets.columns (vec_len first.now.nullable)) symbols.now }
+    requires symbols { All (SymbolFits first.now.sets.columns
+        (vec_len first.now.nullable)) symbols.now }
     ensures shape { SameShape table.old table.new }
     ensures keeps { KeepsBits table.old table.new }
-    ensures adds { AllNull first.now symbols.now → (t : ℕ) → Has table.old from t → Has table.new into t }
+    ensures adds { AllNull first.now symbols.now → (t : ℕ) → Has table.old from t
+        → Has table.new into t }
     ensures same { OnFalse result (KeepsBits table.new table.old) }
     ensures room { (room table.new.words.items ≤ room table.old.words.items)
         × OnTrue result (room table.new.words.items < room table.old.words.items) }
@@ -108,12 +112,13 @@ fn add_passed(
     }
 }
 
-// Gives the row of the nonterminal behind a dot what the symbols behind it and the tokens of the item's row say, and
-// answers whether that is new.
+// Gives the row of the nonterminal behind a dot what the symbols behind it and the tokens of the
+// item's row say, and answers whether that is new.
 fn give(table: &mut BitTable, first: &FirstSets, row: usize, symbols: &[Symbol]) -> bool
     requires sized { IsSized first.now table.old }
     requires row { row < table.old.rows }
-    requires symbols { All (SymbolFits first.now.sets.columns (vec_len first.now.nullable)) symbols.now }
+    requires symbols { All (SymbolFits first.now.sets.columns
+        (vec_len first.now.nullable)) symbols.now }
     ensures shape { SameShape table.old table.new }
     ensures keeps { KeepsBits table.old table.new }
     ensures spread { OnFalse result (IsSpread first.now table.new row symbols.now) }
@@ -166,7 +171,8 @@ fn give_alternatives(
     requires left { left < table.old.rows }
     ensures shape { SameShape table.old table.new }
     ensures keeps { KeepsBits table.old table.new }
-    ensures spread { OnFalse result (All (IsSpreadFrom grammar.now first.now table.new left) productions.now) }
+    ensures spread { OnFalse result (All
+        (IsSpreadFrom grammar.now first.now table.new left) productions.now) }
     ensures same { OnFalse result (KeepsBits table.new table.old) }
     ensures room { (room table.new.words.items ≤ room table.old.words.items)
         × OnTrue result (room table.new.words.items < room table.old.words.items) }
@@ -197,7 +203,8 @@ fn give_rules(
     requires reached { All (λ n. n < table.old.rows) reached.now }
     ensures shape { SameShape table.old table.new }
     ensures keeps { KeepsBits table.old table.new }
-    ensures spread { OnFalse result (All (AreSpread grammar.now first.now alternatives.now table.new) reached.now) }
+    ensures spread { OnFalse result (All
+        (AreSpread grammar.now first.now alternatives.now table.new) reached.now) }
     ensures same { OnFalse result (KeepsBits table.new table.old) }
     ensures room { (room table.new.words.items ≤ room table.old.words.items)
         × OnTrue result (room table.new.words.items < room table.old.words.items) }
@@ -227,7 +234,8 @@ fn round(
     ensures shape { SameShape table.old table.new }
     ensures keeps { KeepsBits table.old table.new }
     ensures kernel { OnFalse result (All (IsSpreadAt grammar.now first.now table.new) kernel.now) }
-    ensures rules { OnFalse result (All (AreSpread grammar.now first.now alternatives.now table.new) reached.now) }
+    ensures rules { OnFalse result (All
+        (AreSpread grammar.now first.now alternatives.now table.new) reached.now) }
     ensures room { (room table.new.words.items ≤ room table.old.words.items)
         × OnTrue result (room table.new.words.items < room table.old.words.items) }
 {
@@ -247,7 +255,8 @@ fn load(
     requires columns { tokens.now.columns ≤ table.old.columns }
     ensures shape { SameShape table.old table.new }
     ensures in_range { IfOk result (λ v. All (λ e. e.tokens < table.old.rows) v.items) }
-    ensures lists { IfOk result (λ v. (i : Item) (t : ℕ) → IsListed tokens.now kernel.now i t → IsListed table.new v.items i t) }
+    ensures lists { IfOk result (λ v. (i : Item) (t : ℕ) → IsListed tokens.now kernel.now i t
+        → IsListed table.new v.items i t) }
 {
     let base = table.rows - kernel.len();
     let mut entries = Vec::new(alloc);
@@ -280,9 +289,14 @@ fn clear(table: &mut BitTable, reached: &[usize], count: usize)
 }
 
 /// The nonterminals behind the dots of a kernel.
-pub fn behind_dots(alloc: Global, grammar: &Grammar, kernel: &[Entry]) -> Result<Vec<usize>, AllocError>
+pub fn behind_dots(
+    alloc: Global,
+    grammar: &Grammar,
+    kernel: &[Entry],
+) -> Result<Vec<usize>, AllocError>
     ensures in_range { IfOk result (λ v. All (λ n. n < vec_len grammar.now.nonterminals) v.items) }
-    ensures exact { IfOk result (λ v. (n : ℕ) → Contains v.items n ↔ IsBehindDot grammar.now kernel.now n) }
+    ensures exact { IfOk result (λ v. (n : ℕ)
+        → Contains v.items n ↔ IsBehindDot grammar.now kernel.now n) }
 {
     let mut starts = Vec::new(alloc);
     for entry in kernel {
@@ -294,12 +308,18 @@ pub fn behind_dots(alloc: Global, grammar: &Grammar, kernel: &[Entry]) -> Result
 }
 
 // Lists the productions of a nonterminal, each with the nonterminal's row.
-fn list_alternatives(left: usize, productions: &[usize], entries: &mut Vec<Entry>) -> Result<(), AllocError>
-    ensures keeps { OnOk result ((e : Entry) → Contains entries.old.items e → Contains entries.new.items e) }
+fn list_alternatives(
+    left: usize,
+    productions: &[usize],
+    entries: &mut Vec<Entry>,
+) -> Result<(), AllocError>
+    ensures keeps { OnOk result ((e : Entry) → Contains entries.old.items e
+        → Contains entries.new.items e) }
     ensures adds { OnOk result ((q : ℕ) → Contains productions.now q
         → Contains entries.new.items (record { item = fresh q; tokens = left })) }
     ensures in_range { (rows : ℕ) → left < rows
-        → All (λ e. e.tokens < rows) entries.old.items → All (λ e. e.tokens < rows) entries.new.items }
+        → All (λ e. e.tokens < rows) entries.old.items
+        → All (λ e. e.tokens < rows) entries.new.items }
 {
     for q in productions {
         entries.push(Entry {
@@ -319,11 +339,14 @@ fn list_rules(
     reached: &[usize],
     entries: &mut Vec<Entry>,
 ) -> Result<(), AllocError>
-    ensures keeps { OnOk result ((e : Entry) → Contains entries.old.items e → Contains entries.new.items e) }
-    ensures adds { OnOk result ((n q : ℕ) → Contains reached.now n → Contains (alternatives_of alternatives.now n) q
+    ensures keeps { OnOk result ((e : Entry) → Contains entries.old.items e
+        → Contains entries.new.items e) }
+    ensures adds { OnOk result ((n q : ℕ) → Contains reached.now n
+        → Contains (alternatives_of alternatives.now n) q
         → Contains entries.new.items (record { item = fresh q; tokens = n })) }
     ensures in_range { (rows : ℕ) → All (λ n. n < rows) reached.now
-        → All (λ e. e.tokens < rows) entries.old.items → All (λ e. e.tokens < rows) entries.new.items }
+        → All (λ e. e.tokens < rows) entries.old.items
+        → All (λ e. e.tokens < rows) entries.new.items }
 {
     for n in reached {
         list_alternatives(*n, alternatives.of(*n), entries)?;
@@ -331,8 +354,8 @@ fn list_rules(
     Ok(())
 }
 
-/// The items of a state with this kernel, all of its closure, each with the row of its tokens. The rows are in
-/// `table`, which serves one closure after the other: what it had before is lost.
+/// The items of a state with this kernel, all of its closure, each with the row of its tokens. The
+/// rows are in `table`, which serves one closure after the other: what it had before is lost.
 pub fn close(
     alloc: Global,
     grammar: &Grammar,
@@ -347,7 +370,8 @@ pub fn close(
     requires columns { tokens.now.columns ≤ vec_len grammar.now.terminals + 1 }
     ensures columns { IfOk result (λ v. table.new.columns ≡ vec_len grammar.now.terminals + 1) }
     ensures in_range { IfOk result (λ v. All (λ e. e.tokens < table.new.rows) v.items) }
-    ensures covers { IfOk result (λ v. (i : Item) (t : ℕ) → InClosure grammar.now tokens.now kernel.now i t
+    ensures covers { IfOk result (λ v. (i : Item) (t : ℕ)
+        → InClosure grammar.now tokens.now kernel.now i t
         → IsListed table.new v.items i t) }
 {
     let starts = behind_dots(alloc, grammar, kernel)?;

@@ -1,7 +1,7 @@
 ghost use Rattle.std.specs.List.Sorted.{IsStrictlyIncreasing};
 
-/// Where a state can do more than one thing before a token: whether it shifts, and the productions that may be
-/// reduced, ascending.
+/// Where a state can do more than one thing before a token: whether it shifts, and the productions
+/// that may be reduced, ascending.
 #[derive(Debug, Drop)]
 pub struct Clash {
     pub state: usize,

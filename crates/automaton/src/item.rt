@@ -14,7 +14,8 @@ pub struct Item {
 /// The symbols behind the dot.
 pub fn rest(grammar: &Grammar, item: Item) -> &[Symbol]
     ensures rest { result.now ≡ rest_of grammar.now item }
-    ensures fits { All (SymbolFits (vec_len grammar.now.terminals) (vec_len grammar.now.nonterminals)) result.now }
+    ensures fits { All (SymbolFits (vec_len grammar.now.terminals)
+        (vec_len grammar.now.nonterminals)) result.now }
 {
     match grammar.productions.get(item.production) {
         Some(production) => {

@@ -4,7 +4,8 @@ ghost use Rattle.automaton.specs.Conflicts.{pairs_of, conflicts_of};
 use crate::{Clash, Conflict, Other};
 use std::alloc::{AllocError, Global};
 
-// Lists the conflicts of one production: with the shift, if there is one, and with each production of a higher number.
+// Lists the conflicts of one production: with the shift, if there is one, and with each production
+// of a higher number.
 fn list_pairs(clash: &Clash, production: usize, list: &mut Vec<Conflict>) -> Result<(), AllocError>
     ensures { OnOk result (list.new.items ≡ list.old.items ++ pairs_of clash.now production) }
 {

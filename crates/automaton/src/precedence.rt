@@ -36,7 +36,8 @@ fn last_of(symbols: &[Symbol]) -> Option<usize>
     last
 }
 
-/// The terminal that a production has its precedence of: that of `%prec`, or else the last of its right side.
+/// The terminal that a production has its precedence of: that of `%prec`, or else the last of its
+/// right side.
 pub fn precedence_terminal(production: &Production) -> Option<usize>
     ensures { result ≡ terminal_of production.now }
 {
@@ -85,7 +86,8 @@ fn compare(levels: &[Level], production: Option<usize>, token: Option<usize>) ->
     }
 }
 
-/// What precedence says where the production may be reduced before the token, and the token may be shifted.
+/// What precedence says where the production may be reduced before the token, and the token may be
+/// shifted.
 pub fn choose(grammar: &Grammar, production: usize, token: usize) -> Choice
     ensures { result ≡ choice_of grammar.now production token }
 {

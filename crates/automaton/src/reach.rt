@@ -44,10 +44,12 @@ impl Frontier {
         requires waiting { All (λ m. m < vec_len self.old.met) self.old.waiting.items }
         ensures len { OnOk result (vec_len self.new.met ≡ vec_len self.old.met) }
         ensures marked { OnOk result (IsMarked self.new.met.items n) }
-        ensures keeps { OnOk result ((m : ℕ) → IsMarked self.old.met.items m → IsMarked self.new.met.items m) }
+        ensures keeps { OnOk result ((m : ℕ) → IsMarked self.old.met.items m
+            → IsMarked self.new.met.items m) }
         ensures waits { OnOk result ((m : ℕ) → IsMarked self.new.met.items m
             → IsMarked self.old.met.items m ⊎ Contains self.new.waiting.items m) }
-        ensures stays { OnOk result ((m : ℕ) → Contains self.old.waiting.items m → Contains self.new.waiting.items m) }
+        ensures stays { OnOk result ((m : ℕ) → Contains self.old.waiting.items m
+            → Contains self.new.waiting.items m) }
         ensures only { OnOk result ((m : ℕ) → Contains self.new.waiting.items m
             → Contains self.old.waiting.items m ⊎ (m ≡ n)) }
         ensures waiting { OnOk result (All (λ m. m < vec_len self.new.met) self.new.waiting.items) }
@@ -68,12 +70,15 @@ impl Frontier {
         ensures len { OnOk result (vec_len self.new.met ≡ vec_len self.old.met) }
         ensures marked { OnOk result ((q m : ℕ) → Contains productions.now q → Leads grammar.now q m
             → IsMarked self.new.met.items m) }
-        ensures keeps { OnOk result ((m : ℕ) → IsMarked self.old.met.items m → IsMarked self.new.met.items m) }
+        ensures keeps { OnOk result ((m : ℕ) → IsMarked self.old.met.items m
+            → IsMarked self.new.met.items m) }
         ensures waits { OnOk result ((m : ℕ) → IsMarked self.new.met.items m
             → IsMarked self.old.met.items m ⊎ Contains self.new.waiting.items m) }
-        ensures stays { OnOk result ((m : ℕ) → Contains self.old.waiting.items m → Contains self.new.waiting.items m) }
+        ensures stays { OnOk result ((m : ℕ) → Contains self.old.waiting.items m
+            → Contains self.new.waiting.items m) }
         ensures only { OnOk result ((m : ℕ) → Contains self.new.waiting.items m
-            → Contains self.old.waiting.items m ⊎ ((q : ℕ) × Contains productions.now q × Leads grammar.now q m)) }
+            → Contains self.old.waiting.items m
+            ⊎ ((q : ℕ) × Contains productions.now q × Leads grammar.now q m)) }
         ensures waiting { OnOk result (All (λ m. m < vec_len self.new.met) self.new.waiting.items) }
         ensures size { OnOk result (size_of self.new ≡ size_of self.old) }
     {
@@ -100,7 +105,8 @@ pub fn reachable(
     requires alternatives { AreAlternatives grammar.now alternatives.now }
     requires starts { All (λ n. n < vec_len grammar.now.nonterminals) starts.now }
     ensures in_range { IfOk result (λ v. All (λ n. n < vec_len grammar.now.nonterminals) v.items) }
-    ensures exact { IfOk result (λ v. (n : ℕ) → Contains v.items n ↔ IsReached grammar.now starts.now n) }
+    ensures exact { IfOk result (λ v. (n : ℕ)
+        → Contains v.items n ↔ IsReached grammar.now starts.now n) }
 {
     let mut frontier = Frontier::new(alloc, grammar.nonterminals.len())?;
     let mut reached = Vec::new(alloc);

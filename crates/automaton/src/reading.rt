@@ -53,7 +53,8 @@ fn add_reading(
     token: usize,
     found: &mut Vec<Item>,
 ) -> Result<(), AllocError>
-    ensures { OnOk result (HasToo found.old.items found.new.items (ReadsFrom grammar.now token productions.now)) }
+    ensures { OnOk result (HasToo found.old.items found.new.items
+        (ReadsFrom grammar.now token productions.now)) }
 {
     for q in productions {
         let item = Item {

@@ -132,11 +132,18 @@ fn resolve_clash(
     clash: &Clash,
     list: &mut Vec<Resolved>,
 ) -> Result<(), AllocError>
-    ensures { OnOk result (list.new.items ≡ list.old.items ++ resolved_of grammar.now used clash.now) }
+    ensures { OnOk result (list.new.items ≡ list.old.items
+        ++ resolved_of grammar.now used clash.now) }
 {
     let found = conflicts(alloc, clash)?;
     for conflict in &found {
-        let resolution = resolve_conflict(grammar, used, clash, conflict.production, conflict.other);
+        let resolution = resolve_conflict(
+            grammar,
+            used,
+            clash,
+            conflict.production,
+            conflict.other,
+        );
         list.push(Resolved {
             conflict: *conflict,
             resolution,
@@ -145,7 +152,8 @@ fn resolve_clash(
     Ok(())
 }
 
-/// Each conflict of the clashes, in their order, with how it comes out. Precedence settles nothing where it is not used.
+/// Each conflict of the clashes, in their order, with how it comes out. Precedence settles nothing
+/// where it is not used.
 pub fn resolve(
     alloc: Global,
     grammar: &Grammar,
@@ -189,8 +197,8 @@ pub fn count_shift_reduce(grammar: &Grammar, used: bool, clashes: &[Clash]) -> u
         .count()
 }
 
-/// How many reductions are left beside the first of each state and token, as bison counts them; the largest number, where
-/// there are more than it says.
+/// How many reductions are left beside the first of each state and token, as bison counts them; the
+/// largest number, where there are more than it says.
 pub fn count_reduce_reduce(grammar: &Grammar, used: bool, clashes: &[Clash]) -> usize
     ensures { result ≡ min usize.MAX (reduce_reduce_count grammar.now used clashes.now) }
 {

@@ -31,7 +31,8 @@ fn is_settled(resolution: Resolution) -> bool
 fn mark_uses(grammar: &Grammar, marks: &mut Vec<bool>, resolved: &Resolved)
     ensures len { vec_len marks.new ≡ vec_len marks.old }
     ensures exact { (t : ℕ) → t < vec_len marks.old
-        → IsMarked marks.new.items t ↔ (IsMarked marks.old.items t ⊎ Uses grammar.now t resolved.now) }
+        → IsMarked marks.new.items t ↔ (IsMarked marks.old.items t
+        ⊎ Uses grammar.now t resolved.now) }
 {
     if !is_settled(resolved.resolution) {
         return;
@@ -42,8 +43,8 @@ fn mark_uses(grammar: &Grammar, marks: &mut Vec<bool>, resolved: &Resolved)
     }
 }
 
-/// Of each terminal whether its precedence settled one of the conflicts: as the token, or as the terminal that the
-/// production has its precedence of.
+/// Of each terminal whether its precedence settled one of the conflicts: as the token, or as the
+/// terminal that the production has its precedence of.
 pub fn used_terminals(
     alloc: Global,
     grammar: &Grammar,

@@ -17,7 +17,8 @@ use std::alloc::{AllocError, Global};
 fn has_item(tokens: &BitTable, kernel: &[Entry], item: Item, table: &BitTable, row: usize) -> bool
     requires row { row < table.now.rows }
     requires columns { table.now.columns ≤ tokens.now.columns }
-    ensures { IsTrue result → (t : ℕ) → Has table.now row t → IsListed tokens.now kernel.now item t }
+    ensures { IsTrue result → (t : ℕ) → Has table.now row t
+        → IsListed tokens.now kernel.now item t }
 {
     for entry in kernel {
         if entry.item == item
@@ -74,7 +75,8 @@ fn all_move(
 ) -> bool
     requires rows { All (λ e. e.tokens < table.now.rows) entries.now }
     requires columns { table.now.columns ≤ automaton.now.tokens.columns }
-    ensures { IsTrue result → All (MovesEntry grammar.now automaton.now state table.now) entries.now }
+    ensures { IsTrue result
+        → All (MovesEntry grammar.now automaton.now state table.now) entries.now }
 {
     for entry in entries {
         if !moves(grammar, automaton, state, table, *entry) {
@@ -122,7 +124,8 @@ fn visit(
     requires columns { automaton.now.tokens.columns ≡ vec_len grammar.now.terminals + 1 }
     ensures moves { IfOk result (λ good. IsTrue good → EachMoves grammar.now automaton.now state) }
     ensures keeps { OnOk result (KeepsClashes clashes.old.items clashes.new.items) }
-    ensures lists { IfOk result (λ good. IsTrue good → ListsState grammar.now automaton.now clashes.new.items state) }
+    ensures lists { IfOk result (λ good. IsTrue good
+        → ListsState grammar.now automaton.now clashes.new.items state) }
 {
     let entries = close(
         alloc,
@@ -148,8 +151,8 @@ fn visit(
     Ok(good)
 }
 
-/// The clashes of an automaton from anywhere: no conflict of the grammar is missing among their conflicts. `None` where
-/// the automaton is not the grammar's.
+/// The clashes of an automaton from anywhere: no conflict of the grammar is missing among their
+/// conflicts. `None` where the automaton is not the grammar's.
 pub fn validated_clashes(
     alloc: Global,
     grammar: &Grammar,

@@ -23,7 +23,8 @@ struct Step {
     symbol: Symbol,
 }
 
-/// How each state was first met from state 0, going over the transitions in their order, the nearest states first.
+/// How each state was first met from state 0, going over the transitions in their order, the
+/// nearest states first.
 #[derive(Debug, Drop)]
 pub struct Ways {
     steps: Vec<Option<Step>>,
@@ -52,15 +53,16 @@ impl Ways {
         Ok(Ways { steps })
     }
 
-    /// The shortest list of symbols that leads from state 0 to a state; of several the first in the order of the
-    /// transitions. `None` where none leads there.
+    /// The shortest list of symbols that leads from state 0 to a state; of several the first in the
+    /// order of the transitions. `None` where none leads there.
     pub fn to(
         &self,
         alloc: Global,
         automaton: &Automaton,
         state: usize,
     ) -> Result<Option<Vec<Symbol>>, AllocError>
-        ensures { IfOk result (λ way. IfSome way (λ symbols. walk automaton.now symbols.items 0 ≡ Some state)) }
+        ensures { IfOk result (λ way. IfSome way (λ symbols. walk automaton.now symbols.items 0
+            ≡ Some state)) }
     {
         let mut symbols = Vec::new(alloc);
         let mut at = state;

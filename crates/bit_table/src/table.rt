@@ -54,7 +54,8 @@ impl BitTable {
         ensures shape { SameShape self.old self.new }
         ensures keeps { KeepsBits self.old self.new }
         ensures adds { Has self.new row column }
-        ensures only { (r c : ℕ) → Has self.new r c → Has self.old r c ⊎ ((r ≡ row) × (c ≡ column)) }
+        ensures only { (r c : ℕ) → Has self.new r c → Has self.old r c
+            ⊎ ((r ≡ row) × (c ≡ column)) }
         ensures same { OnFalse result (KeepsBits self.new self.old) }
         ensures room { (room self.new.words.items ≤ room self.old.words.items)
             × OnTrue result (room self.new.words.items < room self.old.words.items) }
@@ -70,7 +71,8 @@ impl BitTable {
         ensures shape { SameShape self.old self.new }
         ensures keeps { KeepsBits self.old self.new }
         ensures adds { (c : ℕ) → Has self.old from c → Has self.new into c }
-        ensures only { (r c : ℕ) → Has self.new r c → Has self.old r c ⊎ ((r ≡ into) × Has self.old from c) }
+        ensures only { (r c : ℕ) → Has self.new r c → Has self.old r c
+            ⊎ ((r ≡ into) × Has self.old from c) }
         ensures same { OnFalse result (KeepsBits self.new self.old) }
         ensures room { (room self.new.words.items ≤ room self.old.words.items)
             × OnTrue result (room self.new.words.items < room self.old.words.items) }
@@ -82,7 +84,8 @@ impl BitTable {
         or_range(&mut self.words, into * width, from * width, width)
     }
 
-    /// Sets in a row what a row of another table has, and says whether one of those bits was not set.
+    /// Sets in a row what a row of another table has, and says whether one of those bits was not
+    /// set.
     pub fn add_row_of(&mut self, into: usize, other: &BitTable, from: usize) -> bool
         requires into { into < self.old.rows }
         requires from { from < other.now.rows }

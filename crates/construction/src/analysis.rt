@@ -67,15 +67,16 @@ fn made(
     }
 }
 
-/// The clashes of a grammar, by an automaton of this kind. None of the grammar's conflicts is missing among theirs: for
-/// all symbols and each token at which LR(1) items of the grammar are in conflict, they have that pair of actions, in
-/// the state that the symbols lead to.
+/// The clashes of a grammar, by an automaton of this kind. None of the grammar's conflicts is
+/// missing among theirs: for all symbols and each token at which LR(1) items of the grammar are in
+/// conflict, they have that pair of actions, in the state that the symbols lead to.
 pub fn conflicts_of_grammar(
     alloc: Global,
     grammar: &Grammar,
     kind: Kind,
 ) -> Result<Analysis, Failure>
-    ensures nothing_missed { IfOk result (λ a. MissesNone grammar.now a.automaton (conflicts_in a.clashes.items)) }
+    ensures nothing_missed { IfOk result (λ a. MissesNone grammar.now a.automaton
+        (conflicts_in a.clashes.items)) }
     ensures exact { IfOk result (λ a. AreAlternatives grammar.now a.alternatives) }
 {
     let first = FirstSets::new(alloc, grammar)?;

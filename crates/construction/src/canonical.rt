@@ -56,7 +56,8 @@ fn add_tokens(table: &mut BitTable, entries: &[Entry], singles: &[Single]) {
     }
 }
 
-// Puts the items of a closure with the dot moved into the buckets of the symbols that they moved over.
+// Puts the items of a closure with the dot moved into the buckets of the symbols that they moved
+// over.
 fn advance(
     grammar: &Grammar,
     table: &BitTable,
@@ -107,7 +108,8 @@ struct States {
 }
 
 impl States {
-    // Adds the transitions of a state, with the states that they lead to. False where there is no such state.
+    // Adds the transitions of a state, with the states that they lead to. False where there is no
+    // such state.
     fn expand(
         &mut self,
         alloc: Global,

@@ -15,8 +15,8 @@ use grammar::{Grammar, Symbol};
 use propagation::{Edge, propagate};
 use std::alloc::{AllocError, Global};
 
-// The rows of tokens: for each state one for each item of its kernel, and then for each state one for each nonterminal
-// whose productions are in its closure.
+// The rows of tokens: for each state one for each item of its kernel, and then for each state one
+// for each nonterminal whose productions are in its closure.
 #[derive(Drop)]
 struct Rows {
     kernels: Vec<usize>,
@@ -53,7 +53,13 @@ struct Hand {
 }
 
 impl Hand {
-    fn take(&mut self, grammar: &Grammar, transitions: &[Transition], reached: &[usize], first_row: usize) {
+    fn take(
+        &mut self,
+        grammar: &Grammar,
+        transitions: &[Transition],
+        reached: &[usize],
+        first_row: usize,
+    ) {
         for transition in transitions {
             if let Some(target) = self.targets.get_mut(place_of(grammar, transition.symbol)) {
                 *target = transition.to;
@@ -77,8 +83,8 @@ fn kernel_row(states: &States, rows: &Rows, state: usize, item: Item) -> Option<
     Some(row.saturating_add(place))
 }
 
-// What an item with these symbols behind its dot passes on to the nonterminal that they begin with: what begins behind
-// that, and its own tokens where all that may be empty.
+// What an item with these symbols behind its dot passes on to the nonterminal that they begin with:
+// what begins behind that, and its own tokens where all that may be empty.
 fn connect_behind(
     first: &FirstSets,
     hand: &Hand,
@@ -105,8 +111,8 @@ fn connect_behind(
     Ok(())
 }
 
-// What an item of the state in hand passes on: its tokens to the item with the dot moved, and tokens to the nonterminal
-// behind its dot.
+// What an item of the state in hand passes on: its tokens to the item with the dot moved, and
+// tokens to the nonterminal behind its dot.
 fn connect(
     grammar: &Grammar,
     first: &FirstSets,
@@ -205,7 +211,12 @@ fn connect_state(
     };
     let first_row = rows.kernels.get(state).copied().unwrap_or(0);
     let reached_row = rows.reached.get(state).copied().unwrap_or(0);
-    hand.take(grammar, transitions.as_slice(), reached.as_slice(), reached_row);
+    hand.take(
+        grammar,
+        transitions.as_slice(),
+        reached.as_slice(),
+        reached_row,
+    );
     connect_kernel(
         grammar,
         first,
@@ -260,7 +271,11 @@ fn states_of(alloc: Global, states: States, rows: &Rows) -> Result<Vec<State>, A
         reached,
     } = states;
     drop(reached);
-    for ((items, transitions), first_row) in kernels.iter().zip(transitions).zip(rows.kernels.iter()) {
+    for ((items, transitions), first_row) in kernels
+        .iter()
+        .zip(transitions)
+        .zip(rows.kernels.iter())
+    {
         let mut kernel = Vec::new(alloc);
         let mut tokens = *first_row;
         for item in items {

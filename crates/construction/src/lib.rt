@@ -1,5 +1,5 @@
-//! LR automata of grammars, and the conflicts of a grammar by them. Of what the makers make nothing is proved but that
-//! they are safe and end: the validator of `automaton` judges it.
+//! LR automata of grammars, and the conflicts of a grammar by them. Of what the makers make nothing
+//! is proved but that they are safe and end: the validator of `automaton` judges it.
 #![tactic(auto)]
 
 mod analysis;

@@ -6,8 +6,8 @@ use grammar::Grammar;
 use indexmap::IndexSet;
 use std::alloc::{AllocError, Global};
 
-/// The LR(0) states of a grammar, numbered as they are met: breadth first, over the symbols in order, the terminals
-/// first. So bison numbers them.
+/// The LR(0) states of a grammar, numbered as they are met: breadth first, over the symbols in
+/// order, the terminals first. So bison numbers them.
 #[derive(Drop)]
 pub struct States {
     /// The items of each kernel ascend.
@@ -43,7 +43,8 @@ fn entries_of(alloc: Global, items: &[Item]) -> Result<Vec<Entry>, AllocError> {
 }
 
 impl States {
-    // Adds the transitions of a state, with the states that they lead to. False where there is no such state.
+    // Adds the transitions of a state, with the states that they lead to. False where there is no
+    // such state.
     fn expand(
         &mut self,
         alloc: Global,

@@ -22,7 +22,8 @@ fn pass(table: &mut BitTable, edges: &[Edge], number: usize) -> Option<usize>
     requires { All (EdgeFits table.old.rows) edges.now }
     ensures shape { SameShape table.old table.new }
     ensures keeps { KeepsBits table.old table.new }
-    ensures sound { (start : BitTable) → IsSound start edges.now table.old → IsSound start edges.now table.new }
+    ensures sound { (start : BitTable) → IsSound start edges.now table.old
+        → IsSound start edges.now table.new }
 {
     if number >= edges.len() {
         return None;
@@ -70,7 +71,8 @@ fn pass_from(
     requires { All (EdgeFits table.old.rows) edges.now }
     ensures shape { SameShape table.old table.new }
     ensures keeps { KeepsBits table.old table.new }
-    ensures sound { (start : BitTable) → IsSound start edges.now table.old → IsSound start edges.now table.new }
+    ensures sound { (start : BitTable) → IsSound start edges.now table.old
+        → IsSound start edges.now table.new }
 {
     for number in numbers {
         if let Some(row) = pass(table, edges, *number) {
@@ -85,7 +87,8 @@ fn spread(alloc: Global, table: &mut BitTable, edges: &[Edge]) -> Result<(), All
     requires { All (EdgeFits table.old.rows) edges.now }
     ensures shape { SameShape table.old table.new }
     ensures keeps { KeepsBits table.old table.new }
-    ensures sound { (start : BitTable) → IsSound start edges.now table.old → IsSound start edges.now table.new }
+    ensures sound { (start : BitTable) → IsSound start edges.now table.old
+        → IsSound start edges.now table.new }
 {
     let outgoing = Outgoing::new(alloc, edges, table.rows)?;
     let mut waiting = Waiting {
@@ -109,7 +112,8 @@ fn round(table: &mut BitTable, edges: &[Edge]) -> bool
     requires { All (EdgeFits table.old.rows) edges.now }
     ensures shape { SameShape table.old table.new }
     ensures keeps { KeepsBits table.old table.new }
-    ensures sound { (start : BitTable) → IsSound start edges.now table.old → IsSound start edges.now table.new }
+    ensures sound { (start : BitTable) → IsSound start edges.now table.old
+        → IsSound start edges.now table.new }
     ensures closed { OnFalse result (IsClosed edges.now table.new) }
     ensures room { (room table.new.words.items ≤ room table.old.words.items)
         × OnTrue result (room table.new.words.items < room table.old.words.items) }
@@ -123,12 +127,13 @@ fn round(table: &mut BitTable, edges: &[Edge]) -> bool
     changed
 }
 
-/// Passes on along the edges until nothing is new: a row then has what the rows had from which the edges lead to it,
-/// and nothing else.
+/// Passes on along the edges until nothing is new: a row then has what the rows had from which the
+/// edges lead to it, and nothing else.
 pub fn propagate(alloc: Global, table: &mut BitTable, edges: &[Edge]) -> Result<(), AllocError>
     requires { All (EdgeFits table.old.rows) edges.now }
     ensures shape { SameShape table.old table.new }
-    ensures exact { OnOk result ((row column : ℕ) → Has table.new row column ↔ ComesAlong table.old edges.now row column) }
+    ensures exact { OnOk result ((row column : ℕ)
+        → Has table.new row column ↔ ComesAlong table.old edges.now row column) }
 {
     spread(alloc, table, edges)?;
     // It leaves nothing to pass on, which this shows.

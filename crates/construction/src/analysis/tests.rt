@@ -17,8 +17,8 @@ struct Counts {
 
 const END: Symbol = Symbol::Terminal(0);
 
-// A grammar of this many symbols of each kind; `$end` and `error` are among the terminals, and `$accept` is among the
-// nonterminals.
+// A grammar of this many symbols of each kind; `$end` and `error` are among the terminals, and
+// `$accept` is among the nonterminals.
 fn start(alloc: Global, terminals: usize, nonterminals: usize) -> Result<Grammar, AllocError> {
     let mut grammar = Grammar::new(alloc);
     for _ in 0..terminals {
@@ -31,19 +31,30 @@ fn start(alloc: Global, terminals: usize, nonterminals: usize) -> Result<Grammar
 }
 
 fn fits(grammar: &Grammar, symbols: &[Symbol]) -> bool
-    ensures { IsTrue result → All (SymbolFits (vec_len grammar.now.terminals) (vec_len grammar.now.nonterminals)) symbols.now }
+    ensures { IsTrue result
+        → All (SymbolFits (vec_len grammar.now.terminals)
+        (vec_len grammar.now.nonterminals)) symbols.now }
 {
     symbols.iter().all(|symbol| grammar.has_symbol(*symbol))
 }
 
-fn add(alloc: Global, grammar: &mut Grammar, left: usize, right: &[Symbol]) -> Result<(), AllocError> {
+fn add(
+    alloc: Global,
+    grammar: &mut Grammar,
+    left: usize,
+    right: &[Symbol],
+) -> Result<(), AllocError> {
     if left < grammar.nonterminals.len() && fits(grammar, right) {
         grammar.add_production(Production::new(alloc, left, right.to_vec(alloc)?))?;
     }
     Ok(())
 }
 
-fn add_level(alloc: Global, grammar: &mut Grammar, associativity: Associativity) -> Result<(), AllocError> {
+fn add_level(
+    alloc: Global,
+    grammar: &mut Grammar,
+    associativity: Associativity,
+) -> Result<(), AllocError> {
     if 2 < grammar.terminals.len() {
         grammar.add_level(Level {
             associativity,
@@ -97,7 +108,12 @@ fn dangling_else(rt: HostRuntime) -> Result<(), Fail> {
     let mut grammar = start(alloc, 5, 2)?;
     add(alloc, &mut grammar, 0, &[statement, END])?;
     add(alloc, &mut grammar, 1, &[if_word, statement])?;
-    add(alloc, &mut grammar, 1, &[if_word, statement, else_word, statement])?;
+    add(
+        alloc,
+        &mut grammar,
+        1,
+        &[if_word, statement, else_word, statement],
+    )?;
     add(alloc, &mut grammar, 1, &[Symbol::Terminal(4)])?;
     let wanted = Counts {
         states: 8,
@@ -117,10 +133,22 @@ fn associativity_settles(rt: HostRuntime) -> Result<(), Fail> {
         reduce_reduce: 0,
     };
     assert_eq!(rt; count(alloc, &sums(alloc)?, Kind::Lalr), Ok(bare));
-    assert_eq!(rt; outcome(alloc, Associativity::Left), Ok(Some(Resolution::ReductionKept)));
-    assert_eq!(rt; outcome(alloc, Associativity::Right), Ok(Some(Resolution::ShiftKept)));
-    assert_eq!(rt; outcome(alloc, Associativity::Nonassoc), Ok(Some(Resolution::NeitherKept)));
-    assert_eq!(rt; outcome(alloc, Associativity::Precedence), Ok(Some(Resolution::Open)));
+    assert_eq!(rt;
+        outcome(alloc, Associativity::Left),
+        Ok(Some(Resolution::ReductionKept))
+    );
+    assert_eq!(rt;
+        outcome(alloc, Associativity::Right),
+        Ok(Some(Resolution::ShiftKept))
+    );
+    assert_eq!(rt;
+        outcome(alloc, Associativity::Nonassoc),
+        Ok(Some(Resolution::NeitherKept))
+    );
+    assert_eq!(rt;
+        outcome(alloc, Associativity::Precedence),
+        Ok(Some(Resolution::Open))
+    );
     Ok(())
 }
 
@@ -159,7 +187,13 @@ fn only_lalr_is_in_conflict(rt: HostRuntime) -> Result<(), Fail> {
         reduce_reduce: 0,
     };
     assert_eq!(rt; count(alloc, &grammar, Kind::Lalr), Ok(lalr));
-    assert_eq!(rt; count(alloc, &grammar, Kind::Canonical { limit: 100 }), Ok(canonical));
-    assert_eq!(rt; count(alloc, &grammar, Kind::Canonical { limit: 10 }), Err(Failure::Limit));
+    assert_eq!(rt;
+        count(alloc, &grammar, Kind::Canonical { limit: 100 }),
+        Ok(canonical)
+    );
+    assert_eq!(rt;
+        count(alloc, &grammar, Kind::Canonical { limit: 10 }),
+        Err(Failure::Limit)
+    );
     Ok(())
 }

@@ -23,5 +23,7 @@ returns c =
     let g = c.args.grammar.now in
     let a = c.args.automaton.now in
     let inv = c.loop-state.invariant in
-    record { nothing_missed = nothing_missed g a c.loop-state.clashes.items (each_item g a (c.if-not-starts.ensures refl) (λ s l. inv.moves s (omega arith)))
-    (λ s. elim (cases_lt s c.loop-state.state) [ inl l ↦ inv.lists s l | inr past ↦ state_past g a c.loop-state.clashes.items s (λ l. omega arith) ]) }
+    record {
+      nothing_missed = nothing_missed g a c.loop-state.clashes.items (each_item g a (c.if-not-starts.ensures refl) (λ s l. inv.moves s (omega arith)))
+          (λ s. elim (cases_lt s c.loop-state.state) [ inl l ↦ inv.lists s l | inr past ↦ state_past g a c.loop-state.clashes.items s (λ l. omega arith) ]);
+    }
