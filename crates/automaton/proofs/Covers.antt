@@ -20,7 +20,7 @@ use Rattle.automaton.specs.Alternatives.{alternatives_of, AreAlternatives}
 use Rattle.automaton.specs.Reach.{IsReached, start, led}
 use Rattle.automaton.specs.Valid.{BeginsBefore}
 use Rattle.automaton.specs.States.{IsListed, InClosure, given, added}
-use Rattle.automaton.specs.Spreading.{IsFirstOf, IsSpread, IsSpreadAt, IsSpreadFrom, AreSpread, IsBehindDot}
+use Rattle.automaton.specs.Spreading.{IsFirstOf, IsSpread, IsSpreadAt, AreSpread, IsBehindDot}
 
 -- no bits past the last row
 pub no_row : (t : BitTable) (r c : ℕ) → t.rows ≤ r → Has t r c → ⊥

@@ -1,5 +1,5 @@
 -- A list of each state's clashes misses none of the grammar's conflicts.
-use Rattle.std.proofs.Common.{◌≡◌, ℕ, ◌<◌, ◌⊎◌, inl, inr, Bool, true, false, cond, List, [], ◌∷◌, ◌++◌, refl, sym, subst, ◌∙◌, Some, length, arith, rules, tests}
+use Rattle.std.proofs.Common.{◌≡◌, ℕ, ◌<◌, ◌⊎◌, inl, inr, Bool, true, false, cond, List, [], ◌∷◌, ◌++◌, refl, sym, subst, ◌∙◌, Some, arith, rules, tests}
 use Rattle.std.specs.Prelude.{Contains, IsTrue, map, filter, nat_lt, if◌then◌else◌}
 use Rattle.std.specs.List.{flat_map}
 use Rattle.std.proofs.lemmas.List.Elements.{Contains-append_left, Contains-append_right, Contains-append_cases, Contains-push_cases}
@@ -8,7 +8,6 @@ use Rattle.grammar.specs.declared.symbol.Symbol.TheVariants.{Terminal}
 use Rattle.grammar.specs.declared.grammar.Grammar.{Grammar}
 use Rattle.automaton.specs.declared.automaton.Automaton.{Automaton}
 use Rattle.automaton.specs.declared.conflict.Clash.{Clash}
-use Rattle.automaton.specs.declared.conflict.Other.{Other}
 use Rattle.automaton.specs.declared.conflict.Other.TheVariants.{Shift, Reduce}
 use Rattle.automaton.specs.declared.conflict.Conflict.{Conflict}
 use Rattle.automaton.specs.Items.{complete, advanced}

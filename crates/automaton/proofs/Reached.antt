@@ -1,5 +1,5 @@
 -- What is reached, step by step.
-use Rattle.std.proofs.Common.{◌≡◌, ℕ, ◌+◌, ◌<◌, ◌⊎◌, ◌↔◌, inl, inr, Bool, true, List, [], ◌∷◌, ◌++◌, length, get_or, take, refl, ap, ◌∙◌, sym, arith, All, Some, get_or-set_same, get_or-set_other}
+use Rattle.std.proofs.Common.{◌≡◌, ℕ, ◌+◌, ◌<◌, ◌⊎◌, ◌↔◌, inl, inr, Bool, true, List, [], ◌∷◌, ◌++◌, length, get_or, take, refl, ◌∙◌, sym, arith, All, Some, get_or-set_same, get_or-set_other}
 use Rattle.std.specs.Prelude.{Contains, slice_set}
 use Rattle.std.proofs.lemmas.Bool.{cases_eq}
 use Rattle.std.proofs.lemmas.List.Elements.{All-head, Contains-push, Contains-push_cases, Contains-append_left}
@@ -8,7 +8,7 @@ use Rattle.grammar.specs.declared.symbol.Symbol.TheVariants.{Terminal, Nontermin
 use Rattle.grammar.specs.declared.grammar.Grammar.{Grammar}
 use Rattle.grammar.specs.Symbols.{SymbolFits}
 use Rattle.automaton.specs.declared.automaton.Entry.{Entry}
-use Rattle.automaton.specs.Items.{rest_of, fresh, IsRule}
+use Rattle.automaton.specs.Items.{rest_of, IsRule}
 use Rattle.automaton.specs.Reach.{IsMarked, Leads, IsReached, start, led, leading_of}
 use Rattle.automaton.specs.Spreading.{IsBehindDot}
 use Rattle.automaton.proofs.Listed.{contains_cases, earlier, here}

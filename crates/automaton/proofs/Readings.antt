@@ -1,5 +1,5 @@
 -- The items of a kernel and of the nonterminals that are reached are those of its closure.
-use Rattle.std.proofs.Common.{◌≡◌, ℕ, ◌+◌, ◌<◌, ◌⊎◌, ◌↔◌, inl, inr, List, [], ◌∷◌, ◌++◌, length, get_or, take, refl, sym, ◌∙◌, arith, Some}
+use Rattle.std.proofs.Common.{◌≡◌, ℕ, ◌+◌, ◌<◌, ◌↔◌, inl, inr, List, [], ◌∷◌, ◌++◌, length, get_or, take, refl, sym, arith, Some}
 use Rattle.std.specs.Prelude.{Contains}
 use Rattle.std.proofs.lemmas.List.Elements.{Contains-push, Contains-push_cases, Contains-append_left}
 use Rattle.grammar.specs.declared.symbol.Symbol.{Symbol}
@@ -8,7 +8,7 @@ use Rattle.grammar.specs.declared.grammar.Grammar.{Grammar}
 use Rattle.automaton.specs.declared.item.Item.{Item}
 use Rattle.automaton.specs.declared.automaton.Entry.{Entry}
 use Rattle.automaton.specs.declared.alternatives.Alternatives.{Alternatives}
-use Rattle.automaton.specs.Items.{rest_of, fresh, IsRule}
+use Rattle.automaton.specs.Items.{rest_of, fresh}
 use Rattle.automaton.specs.Alternatives.{alternatives_of, AreAlternatives}
 use Rattle.automaton.specs.Reach.{IsReached, start, led, leading_of}
 use Rattle.automaton.specs.Reading.{IsItem, given, added, Reads, ReadsFrom, HasToo}

@@ -1,10 +1,10 @@
 -- Lists of productions by nonterminals, one production more.
-use Rattle.std.proofs.Common.{◌≡◌, ◌≢◌, ℕ, ◌+◌, ◌<◌, ◌⊎◌, inl, inr, List, [], ◌∷◌, ◌++◌, length, get_or, refl, sym, ◌∙◌, ap, subst, arith, All, vec_len, below_more, ◌↔◌, get_or-set_same, get_or-set_other}
+use Rattle.std.proofs.Common.{◌≡◌, ℕ, ◌+◌, ◌<◌, inl, inr, List, [], ◌∷◌, ◌++◌, length, get_or, sym, ◌∙◌, ap, arith, All, vec_len, below_more, get_or-set_same, get_or-set_other}
 use Rattle.std.specs.Prelude.{Contains, map, slice_set}
 use Rattle.std.specs.declared.vec.Vec.{Vec}
 use Rattle.std.specs.declared.alloc.Global.{Global}
 use Rattle.std.proofs.lemmas.Bool.{cases_eq, cases_lt}
-use Rattle.std.proofs.lemmas.List.{get_or-map, map-set, length-map, get_or_past}
+use Rattle.std.proofs.lemmas.List.{get_or-map, map-set, get_or_past}
 use Rattle.std.proofs.lemmas.List.Elements.{Contains-push, Contains-push_cases, Contains-append_left}
 use Rattle.grammar.specs.declared.symbol.Production.{Production}
 use Rattle.grammar.specs.declared.grammar.Grammar.{Grammar}

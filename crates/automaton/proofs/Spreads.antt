@@ -1,7 +1,6 @@
 -- Rows that keep what they have, and what was given to them.
-use Rattle.std.proofs.Common.{◌≡◌, ℕ, Bool, true, false, List, refl, ◌∙◌, All}
+use Rattle.std.proofs.Common.{ℕ, Bool, true, false, List, ◌∙◌, All}
 use Rattle.std.specs.Bool.{OnFalse}
-use Rattle.std.specs.Prelude.{Contains}
 use Rattle.std.proofs.lemmas.List.Elements.{All-weaker}
 use Rattle.bit_table.specs.declared.table.BitTable.{BitTable}
 use Rattle.bit_table.specs.Table.{KeepsBits, SameShape}

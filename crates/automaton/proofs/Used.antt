@@ -1,6 +1,6 @@
 -- Marks of the terminals by which precedence settles conflicts.
-use Rattle.std.proofs.Common.{◌≡◌, ℕ, ◌+◌, ◌<◌, ◌⊎◌, ◌↔◌, inl, inr, Bool, true, false, List, [], length, get_or, take, refl, sym, ◌∙◌, arith, Option, Some, None}
-use Rattle.std.specs.Prelude.{Contains, slice_set}
+use Rattle.std.proofs.Common.{◌≡◌, ℕ, ◌+◌, ◌<◌, ◌⊎◌, ◌↔◌, inl, inr, Bool, true, false, List, length, get_or, take, sym, ◌∙◌, Some, None}
+use Rattle.std.specs.Prelude.{slice_set}
 use Rattle.grammar.specs.declared.grammar.Grammar.{Grammar}
 use Rattle.automaton.specs.declared.resolution.Resolved.{Resolved}
 use Rattle.automaton.specs.Precedence.{production_terminal}

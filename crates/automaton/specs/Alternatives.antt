@@ -1,5 +1,5 @@
 -- The productions of each nonterminal.
-use Rattle.std.specs.Prelude.{ℕ, ◌≡◌, ◌↔◌, List, [], map, slice_index_or, Contains}
+use Rattle.std.specs.Prelude.{ℕ, ◌↔◌, List, [], map, slice_index_or, Contains}
 use Rattle.std.specs.declared.vec.Vec.{Vec}
 use Rattle.std.specs.declared.alloc.Global.{Global}
 use Rattle.grammar.specs.declared.grammar.Grammar.{Grammar}

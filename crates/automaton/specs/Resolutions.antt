@@ -1,6 +1,6 @@
 -- How the conflicts of a clash come out, when precedence is asked of each production in turn,
 -- ascending (as bison does).
-use Rattle.std.specs.Prelude.{ℕ, ◌≡◌, ◌⊎◌, ◌-◌, ◌&&◌, Contains, nat_lt, if◌then◌else◌, Bool, true, false, not, List, Option, Some, None, is_none, map, filter, length, sum_by, count_by}
+use Rattle.std.specs.Prelude.{ℕ, ◌≡◌, ◌⊎◌, ◌-◌, ◌&&◌, Contains, nat_lt, if◌then◌else◌, Bool, true, false, not, List, Option, Some, None, is_none, map, sum_by, count_by}
 use Rattle.std.specs.List.{find, flat_map}
 use Rattle.grammar.specs.declared.grammar.Grammar.{Grammar}
 use Rattle.automaton.specs.declared.conflict.Clash.{Clash}
@@ -13,7 +13,7 @@ use Rattle.automaton.specs.declared.resolution.Resolution.{Resolution}
 use Rattle.automaton.specs.declared.resolution.Resolution.TheVariants.{Open, ShiftKept, ReductionKept, NeitherKept, ShiftGone, ReductionGone}
 use Rattle.automaton.specs.declared.resolution.Resolved.{Resolved}
 use Rattle.automaton.specs.Precedence.{choice_of, production_terminal}
-use Rattle.automaton.specs.Conflicts.{conflicts_of, conflicts_in}
+use Rattle.automaton.specs.Conflicts.{conflicts_of}
 
 -- what precedence says of a production of a clash; nothing, where precedence is not used
 abbrev pub choice_in : Grammar → Bool → Clash → ℕ → Choice

@@ -1,3 +1,5 @@
+//! The productions of each nonterminal, so that a closure costs what it contains.
+
 ghost use Rattle.std.specs.Prelude.{◌≡◌, ◌<◌, ◌++◌, [], ◌∷◌, IfOk, OnOk, slice_set, slice_index_or, vec_len};
 ghost use Rattle.automaton.specs.Alternatives.{lists_of, alternatives_of, AreAlternatives};
 

@@ -1,3 +1,5 @@
+//! States with the tokens of their kernels' items, and where symbols lead.
+
 ghost use Rattle.std.specs.Prelude.{◌≡◌};
 ghost use Rattle.automaton.specs.Targets.{same_symbol, target_in};
 

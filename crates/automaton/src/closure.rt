@@ -1,3 +1,5 @@
+//! The closure of a kernel: all its items, each with its tokens.
+
 ghost use Rattle.std.specs.Prelude.{◌≡◌, ℕ, ◌+◌, ◌<◌, ◌≤◌, ◌↔◌, All, Contains, IsTrue, IfOk, OnOk, length, vec_len};
 ghost use Rattle.std.specs.Bool.{OnTrue, OnFalse};
 ghost use Rattle.bit_table.specs.Bits.{room};

@@ -1,3 +1,5 @@
+//! Conflicts, alone and by their states and tokens.
+
 ghost use Rattle.std.specs.List.Sorted.{IsStrictlyIncreasing};
 
 /// Where a state can do more than one thing before a token: whether it shifts, and the productions

@@ -1,3 +1,5 @@
+//! Items: productions with a dot.
+
 ghost use Rattle.std.specs.Prelude.{◌≡◌, All, vec_len};
 ghost use Rattle.grammar.specs.Symbols.{SymbolFits};
 ghost use Rattle.automaton.specs.Items.{rest_of};

@@ -1,3 +1,5 @@
+//! The conflicts of a state and a token, pair by pair.
+
 ghost use Rattle.std.specs.Prelude.{◌≡◌, ◌++◌, IfOk, OnOk};
 ghost use Rattle.automaton.specs.Conflicts.{pairs_of, conflicts_of};
 

@@ -1,3 +1,5 @@
+//! What precedence says of a production and a token.
+
 ghost use Rattle.std.specs.Prelude.{◌≡◌, None};
 ghost use Rattle.automaton.specs.Precedence.{level_of, last_terminal, terminal_of, production_terminal, production_level, compare_levels, choice_of};
 

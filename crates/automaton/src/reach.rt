@@ -1,3 +1,5 @@
+//! The nonterminals whose productions a closure has.
+
 ghost use Rattle.std.specs.Prelude.{◌≡◌, ℕ, ◌<◌, ◌↔◌, ◌⊎◌, [], All, Contains, IfOk, OnOk, vec_len};
 ghost use Rattle.automaton.specs.Reach.{leading_of, IsMarked, Leads, IsReached};
 ghost use Rattle.automaton.specs.Alternatives.{AreAlternatives};

@@ -1,3 +1,5 @@
+//! The items of a state that read a token.
+
 ghost use Rattle.std.specs.Prelude.{◌↔◌, Contains, IsTrue, IfOk, OnOk};
 ghost use Rattle.automaton.specs.declared.item.Item.{Item};
 ghost use Rattle.automaton.specs.Alternatives.{AreAlternatives};

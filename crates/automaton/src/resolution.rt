@@ -1,3 +1,5 @@
+//! How conflicts come out by precedence, and their counts.
+
 ghost use Rattle.std.specs.Prelude.{◌≡◌, ◌++◌, IfOk, OnOk, min};
 ghost use Rattle.automaton.specs.Resolutions.{choice_in, takes_shift, taker_of, decided, against_shift, shift_resolution, loses, is_lost, resolution_of, resolved_of, resolved_in, left_count, is_shift_reduce, shift_reduce_count, reduce_reduce_count};
 

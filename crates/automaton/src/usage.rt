@@ -1,3 +1,5 @@
+//! The terminals whose precedence settles something.
+
 ghost use Rattle.std.specs.Prelude.{◌≡◌, ℕ, ◌<◌, ◌↔◌, ◌⊎◌, IfOk, vec_len};
 ghost use Rattle.automaton.specs.Reach.{IsMarked};
 ghost use Rattle.automaton.specs.Resolutions.{is_by_precedence, Uses, IsUsed};

@@ -1,3 +1,5 @@
+//! Whether an automaton is the grammar's, and its clashes, in one pass over the closures.
+
 ghost use Rattle.std.specs.Prelude.{◌≡◌, ℕ, ◌+◌, ◌<◌, ◌≤◌, All, IsTrue, IfOk, IfSome, OnOk, length, vec_len};
 ghost use Rattle.bit_table.specs.Table.{Has};
 ghost use Rattle.automaton.specs.Alternatives.{AreAlternatives};

@@ -1,3 +1,5 @@
+//! The shortest symbols that lead to each state.
+
 ghost use Rattle.std.specs.Prelude.{◌≡◌, IfOk, IfSome, Some};
 ghost use Rattle.automaton.specs.States.{walk};
 

@@ -1,3 +1,5 @@
+//! The conflicts of a grammar, by an automaton of a kind.
+
 ghost use Rattle.std.specs.Prelude.{IfOk};
 ghost use Rattle.automaton.specs.Alternatives.{AreAlternatives};
 ghost use Rattle.automaton.specs.Conflicts.{conflicts_in, MissesNone};

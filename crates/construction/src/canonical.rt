@@ -1,3 +1,5 @@
+//! Canonical LR(1) automata.
+
 ghost use Rattle.automaton.specs.Alternatives.{AreAlternatives};
 ghost use Rattle.automaton.specs.Spreading.{IsFirstOf};
 

@@ -1,3 +1,5 @@
+//! LALR(1) automata: the LR(0) states, with the tokens that their items pass on to each other.
+
 ghost use Rattle.std.specs.Prelude.{All, IsTrue, vec_len};
 ghost use Rattle.grammar.specs.Symbols.{SymbolFits};
 ghost use Rattle.automaton.specs.Alternatives.{AreAlternatives};

@@ -1,3 +1,5 @@
+//! LR(0) states.
+
 ghost use Rattle.automaton.specs.Alternatives.{AreAlternatives};
 
 use crate::symbols::{Buckets, place_of, symbol_at};

@@ -1,3 +1,5 @@
+//! Symbols by their places among all.
+
 use grammar::{Grammar, Symbol};
 use std::alloc::{AllocError, Global};
 

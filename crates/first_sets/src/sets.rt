@@ -1,3 +1,5 @@
+//! The sets, and how they grow.
+
 ghost use Rattle.std.specs.Prelude.{◌≡◌, ℕ, ◌+◌, ◌<◌, ◌≤◌, ◌↔◌, ◌⊎◌, List, All, IsTrue, IfOk, vec_len};
 ghost use Rattle.std.specs.Bool.{OnTrue, OnFalse};
 ghost use Rattle.bit_table.specs.Table.{SameShape, KeepsBits};

@@ -1,4 +1,4 @@
-use Rattle.std.proofs.Common.{◌≤◌, length, sym, ◌∙◌, arith, List}
+use Rattle.std.proofs.Common.{sym, ◌∙◌, arith, List}
 use Rattle.std.proofs.lemmas.List.{at_drop_all}
 use Rattle.automaton.specs.declared.automaton.Transition.{Transition}
 use Rattle.automaton.specs.Targets.{target_in}

@@ -1,10 +1,6 @@
-use Rattle.std.proofs.Common.{ℕ, ◌<◌, ◌≤◌, inl, inr, arith, length}
-use Rattle.std.specs.Prelude.{Contains}
+use Rattle.std.proofs.Common.{◌<◌, ◌≤◌, inl, inr, arith, length}
 use Rattle.std.proofs.lemmas.List.{take_all}
 use Rattle.std.proofs.lemmas.List.Elements.{All-get_or}
-use Rattle.automaton.specs.declared.automaton.Entry.{Entry}
-use Rattle.automaton.specs.Alternatives.{alternatives_of}
-use Rattle.automaton.specs.Items.{fresh}
 use Rattle.automaton.proofs.Listed.{contains_cases}
 use Rattle.automaton.proofs.closure.list_rules.Goals as goal
 

@@ -1,4 +1,4 @@
-use Rattle.std.proofs.Common.{◌≡◌, ◌<◌, ◌≤◌, [], Some, length, refl, sym, ◌∙◌, ap, arith, vec_len, All}
+use Rattle.std.proofs.Common.{◌≡◌, ◌<◌, ◌≤◌, Some, length, refl, ◌∙◌, ap, arith, vec_len}
 use Rattle.std.proofs.lemmas.List.{take_all}
 use Rattle.std.proofs.lemmas.List.Elements.{All-push, All-pop}
 use Rattle.automaton.proofs.Reached.{exploring_none, exploring_start, exploring_more, explored}

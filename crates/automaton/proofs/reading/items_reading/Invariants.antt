@@ -1,7 +1,5 @@
-use Rattle.std.proofs.Common.{[], take, List}
-use Rattle.automaton.specs.declared.item.Item.{Item}
+use Rattle.std.proofs.Common.{[], take}
 use Rattle.automaton.specs.Reading.{HasToo}
-use Rattle.automaton.specs.States.{kernel_of}
 use Rattle.automaton.proofs.Readings.{ReadsEntry, ReadsOf}
 use Rattle.automaton.proofs.reading.items_reading.Given as goal
 

@@ -1,4 +1,4 @@
-use Rattle.std.proofs.Common.{◌≡◌, ℕ, ◌-◌, take, min}
+use Rattle.std.proofs.Common.{◌≡◌, ◌-◌, take, min}
 use Rattle.std.specs.Prelude.{sum_by}
 use Rattle.automaton.specs.declared.conflict.Clash.{Clash}
 use Rattle.automaton.specs.Resolutions.{left_count}

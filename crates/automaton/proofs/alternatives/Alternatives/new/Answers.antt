@@ -1,4 +1,4 @@
-use Rattle.std.proofs.Common.{◌≡◌, ◌<◌, ◌+◌, arith, length, sym, ◌∙◌}
+use Rattle.std.proofs.Common.{◌<◌, arith, length, ◌∙◌}
 use Rattle.std.proofs.lemmas.List.{length-map}
 use Rattle.automaton.specs.Alternatives.{lists_of}
 use Rattle.automaton.proofs.Ruled.{left_at, left_fits, has_more, only_more, none_listed}

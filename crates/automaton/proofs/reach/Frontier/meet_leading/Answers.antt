@@ -1,6 +1,6 @@
-use Rattle.std.proofs.Common.{◌≡◌, ◌≤◌, length, sym, ◌∙◌, arith, vec_len}
+use Rattle.std.proofs.Common.{◌≤◌, length, sym, ◌∙◌, arith, vec_len}
 use Rattle.std.proofs.lemmas.List.{take_all}
-use Rattle.automaton.proofs.Reached.{Meeting, leading_fits, meeting_more, meeting_none}
+use Rattle.automaton.proofs.Reached.{leading_fits, meeting_more, meeting_none}
 use Rattle.automaton.proofs.reach.Frontier.meet_leading.Goals as goal
 use Rattle.automaton.proofs.reach.Frontier.meet_leading.Goals.{in-Some+in_ok-meet, in_default}
 

@@ -1,4 +1,4 @@
-use Rattle.std.proofs.Common.{◌≡◌, ℕ, ◌<◌, All, take, vec_len}
+use Rattle.std.proofs.Common.{◌≡◌, ◌<◌, All, take, vec_len}
 use Rattle.automaton.specs.Reach.{size_of}
 use Rattle.automaton.proofs.Reached.{Meeting}
 use Rattle.automaton.proofs.reach.Frontier.meet_leading.Given as goal
