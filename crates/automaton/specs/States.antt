@@ -24,7 +24,8 @@ pub record IsListed (table : BitTable) (entries : List Entry) (i : Item) (t : �
 -- the closure of a kernel: the least set with the kernel that the closure rule does not add to
 pub data InClosure (g : Grammar) (table : BitTable) (kernel : List Entry) : Item → ℕ → Type 0 where
   given : {i : Item} {a : ℕ} → IsListed table kernel i a → InClosure g table kernel i a
-  added : {i : Item} {a b : ℕ} (n q : ℕ) (β : List Symbol) → InClosure g table kernel i a → rest_of g i ≡ Nonterminal n ∷ β → IsRule g q n → BeginsBefore g β a b
+  added : {i : Item} {a b : ℕ} (n q : ℕ) (β : List Symbol) → InClosure g table kernel i a
+      → rest_of g i ≡ Nonterminal n ∷ β → IsRule g q n → BeginsBefore g β a b
       → InClosure g table kernel (fresh q) b
 
 abbrev pub kernel_of : Automaton → ℕ → List Entry
@@ -58,17 +59,21 @@ HasEachItem g a = (γ : List Symbol) (i : Item) (t : ℕ) → Valid g γ i t →
 -- ---- what is looked at in each state
 
 -- over x the state leads to one whose kernel has the item with the dot behind x
-pub record Moves (g : Grammar) (a : Automaton) (s : ℕ) (x : Symbol) (i : Item) (t : ℕ) : Type 0 where
+pub record Moves (g : Grammar) (a : Automaton) (s : ℕ) (x : Symbol) (i : Item)
+    (t : ℕ) : Type 0 where
   pub to : ℕ
   pub over : target_of a s x ≡ Some to
   pub kernel : IsListed a.tokens (kernel_of a to) (advanced i) t
 
 -- an item with the tokens of a row
-pub record MovesEntry (g : Grammar) (a : Automaton) (s : ℕ) (table : BitTable) (e : Entry) : Type 0 where
-  pub moves : (x : Symbol) (β : List Symbol) (t : ℕ) → Has table e.tokens t → rest_of g e.item ≡ x ∷ β → Moves g a s x e.item t
+pub record MovesEntry (g : Grammar) (a : Automaton) (s : ℕ) (table : BitTable)
+    (e : Entry) : Type 0 where
+  pub moves : (x : Symbol) (β : List Symbol) (t : ℕ) → Has table e.tokens t
+      → rest_of g e.item ≡ x ∷ β → Moves g a s x e.item t
 
 abbrev pub EachMoves : Grammar → Automaton → ℕ → Type 0
-EachMoves g a s = (x : Symbol) (β : List Symbol) (i : Item) (t : ℕ) → InState g a s i t → rest_of g i ≡ x ∷ β → Moves g a s x i t
+EachMoves g a s = (x : Symbol) (β : List Symbol) (i : Item) (t : ℕ) → InState g a s i t
+    → rest_of g i ≡ x ∷ β → Moves g a s x i t
 
 -- state 0 has the start production
 abbrev pub Starts : Grammar → Automaton → Type 0

@@ -1,5 +1,7 @@
--- The LR(1) items that are valid for a list of symbols, and the conflicts among them, as textbooks have them (Knuth; Aho, Sethi, Ullman).
--- Production 0 is the start. A token is a terminal's number, or the next after them for the end of the input.
+-- The LR(1) items that are valid for a list of symbols, and the conflicts among them, as textbooks
+-- have them (Knuth; Aho, Sethi, Ullman).
+-- Production 0 is the start. A token is a terminal's number, or the next after them for the end of
+-- the input.
 use Rattle.std.specs.Prelude.{ℕ, ◌≡◌, ◌<◌, ◌⊎◌, List, [], ◌∷◌, ◌++◌, vec_len}
 use Rattle.grammar.specs.declared.symbol.Symbol.{Symbol}
 use Rattle.grammar.specs.declared.symbol.Symbol.TheVariants.{Terminal, Nonterminal}
@@ -14,14 +16,17 @@ end_of g = vec_len g.terminals
 
 -- b begins what the symbols derive with the token a behind it
 abbrev pub BeginsBefore : Grammar → List Symbol → ℕ → ℕ → Type 0
-BeginsBefore g xs a b = Begins g.productions.items xs b ⊎ (Vanishes g.productions.items xs × (b ≡ a))
+BeginsBefore g xs a b = Begins g.productions.items xs b
+    ⊎ (Vanishes g.productions.items xs × (b ≡ a))
 
 -- [i, a] is valid for the symbols
 pub data Valid (g : Grammar) : List Symbol → Item → ℕ → Type 0 where
   start : Valid g [] (fresh 0) (end_of g)
-  closed : {γ : List Symbol} {i : Item} {a b : ℕ} (n q : ℕ) (β : List Symbol) → Valid g γ i a → rest_of g i ≡ Nonterminal n ∷ β → IsRule g q n → BeginsBefore g β a b
+  closed : {γ : List Symbol} {i : Item} {a b : ℕ} (n q : ℕ) (β : List Symbol) → Valid g γ i a
+      → rest_of g i ≡ Nonterminal n ∷ β → IsRule g q n → BeginsBefore g β a b
       → Valid g γ (fresh q) b
-  moved : {γ : List Symbol} {i : Item} {a : ℕ} (x : Symbol) (β : List Symbol) → Valid g γ i a → rest_of g i ≡ x ∷ β → Valid g (γ ++ x ∷ []) (advanced i) a
+  moved : {γ : List Symbol} {i : Item} {a : ℕ} (x : Symbol) (β : List Symbol) → Valid g γ i a
+      → rest_of g i ≡ x ∷ β → Valid g (γ ++ x ∷ []) (advanced i) a
 
 -- after the symbols, production p may be reduced before t, and an item may read t
 pub record IsShiftReduce (g : Grammar) (γ : List Symbol) (t p : ℕ) : Type 0 where

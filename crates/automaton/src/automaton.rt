@@ -1,5 +1,7 @@
+//! States with the tokens of their kernels' items, and where symbols lead.
+
 ghost use Rattle.std.specs.Prelude.{◌≡◌};
-ghost use Rattle.automaton.specs.Targets.{target_in};
+ghost use Rattle.automaton.specs.Targets.{same_symbol, target_in};
 
 use crate::Item;
 use bit_table::BitTable;
@@ -26,11 +28,28 @@ pub struct State {
     pub transitions: Vec<Transition>,
 }
 
-/// States, and the tokens of their kernels' items. Nothing is promised of them: that is what the validator is for.
+/// States, and the tokens of their kernels' items. Nothing is promised of them: that is what the
+/// validator is for.
 #[derive(Debug, Drop)]
 pub struct Automaton {
     pub states: Vec<State>,
     pub tokens: BitTable,
+}
+
+// Whether two symbols are one.
+fn is_same(a: Symbol, b: Symbol) -> bool
+    ensures { result ≡ same_symbol a b }
+{
+    match a {
+        Symbol::Terminal(t) => match b {
+            Symbol::Terminal(u) => t == u,
+            Symbol::Nonterminal(_) => false,
+        },
+        Symbol::Nonterminal(n) => match b {
+            Symbol::Terminal(_) => false,
+            Symbol::Nonterminal(m) => n == m,
+        },
+    }
 }
 
 /// Where the first transition over the symbol leads.
@@ -38,7 +57,7 @@ pub fn target(transitions: &[Transition], symbol: Symbol) -> Option<usize>
     ensures { result ≡ target_in transitions.now symbol }
 {
     for transition in transitions {
-        if transition.symbol == symbol {
+        if is_same(transition.symbol, symbol) {
             return Some(transition.to);
         }
     }

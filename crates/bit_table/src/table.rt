@@ -1,8 +1,10 @@
+//! The table and what is done with its rows.
+
 ghost use Rattle.std.specs.Prelude.{◌≡◌, ◌≢◌, ℕ, ◌+◌, ◌*◌, ◌/◌, ◌<◌, ◌≤◌, ◌↔◌, ◌⊎◌, IsTrue, IfOk, vec_len};
 ghost use Rattle.std.specs.Bool.{OnTrue, OnFalse};
 ghost use Rattle.bit_table.specs.Bits.{room};
 
-use crate::words::{are_zero, has_all, or_from, or_range, or_word};
+use crate::words::{are_zero, clear, has_all, or_from, or_range, or_word};
 use std::alloc::{AllocError, Global};
 
 /// A table of bits.
@@ -54,7 +56,8 @@ impl BitTable {
         ensures shape { SameShape self.old self.new }
         ensures keeps { KeepsBits self.old self.new }
         ensures adds { Has self.new row column }
-        ensures only { (r c : ℕ) → Has self.new r c → Has self.old r c ⊎ ((r ≡ row) × (c ≡ column)) }
+        ensures only { (r c : ℕ) → Has self.new r c → Has self.old r c
+            ⊎ ((r ≡ row) × (c ≡ column)) }
         ensures same { OnFalse result (KeepsBits self.new self.old) }
         ensures room { (room self.new.words.items ≤ room self.old.words.items)
             × OnTrue result (room self.new.words.items < room self.old.words.items) }
@@ -70,7 +73,8 @@ impl BitTable {
         ensures shape { SameShape self.old self.new }
         ensures keeps { KeepsBits self.old self.new }
         ensures adds { (c : ℕ) → Has self.old from c → Has self.new into c }
-        ensures only { (r c : ℕ) → Has self.new r c → Has self.old r c ⊎ ((r ≡ into) × Has self.old from c) }
+        ensures only { (r c : ℕ) → Has self.new r c → Has self.old r c
+            ⊎ ((r ≡ into) × Has self.old from c) }
         ensures same { OnFalse result (KeepsBits self.new self.old) }
         ensures room { (room self.new.words.items ≤ room self.old.words.items)
             × OnTrue result (room self.new.words.items < room self.old.words.items) }
@@ -82,7 +86,8 @@ impl BitTable {
         or_range(&mut self.words, into * width, from * width, width)
     }
 
-    /// Sets in a row what a row of another table has, and says whether one of those bits was not set.
+    /// Sets in a row what a row of another table has, and says whether one of those bits was not
+    /// set.
     pub fn add_row_of(&mut self, into: usize, other: &BitTable, from: usize) -> bool
         requires into { into < self.old.rows }
         requires from { from < other.now.rows }
@@ -134,5 +139,16 @@ impl BitTable {
         ensures { IsTrue result → (c : ℕ) → ¬ (Has self.now row c) }
     {
         are_zero(self.words.as_slice(), row * self.width, self.width)
+    }
+
+    /// Takes all bits of a row away.
+    pub fn clear_row(&mut self, row: usize)
+        requires { row < self.old.rows }
+        ensures shape { SameShape self.old self.new }
+        ensures empty { (c : ℕ) → ¬ (Has self.new row c) }
+        ensures only { KeepsBits self.new self.old }
+    {
+        let width = self.width;
+        clear(&mut self.words, row * width, width);
     }
 }

@@ -1,3 +1,5 @@
+//! The sets, and how they grow.
+
 ghost use Rattle.std.specs.Prelude.{◌≡◌, ℕ, ◌+◌, ◌<◌, ◌≤◌, ◌↔◌, ◌⊎◌, List, All, IsTrue, IfOk, vec_len};
 ghost use Rattle.std.specs.Bool.{OnTrue, OnFalse};
 ghost use Rattle.bit_table.specs.Table.{SameShape, KeepsBits};
@@ -51,9 +53,11 @@ impl FirstSets {
         ensures nullable { self.new.nullable ≡ self.old.nullable }
         ensures keeps { KeepsBits self.old.sets self.new.sets }
         ensures adds { (t : ℕ) → SymbolFirst self.old symbol t → first_of self.new left t }
-        ensures only { (n t : ℕ) → first_of self.new n t → first_of self.old n t ⊎ ((n ≡ left) × SymbolFirst self.old symbol t) }
+        ensures only { (n t : ℕ) → first_of self.new n t → first_of self.old n t
+            ⊎ ((n ≡ left) × SymbolFirst self.old symbol t) }
         ensures same { OnFalse result (KeepsBits self.new.sets self.old.sets) }
-        ensures room { (room_of self.new ≤ room_of self.old) × OnTrue result (room_of self.new < room_of self.old) }
+        ensures room { (room_of self.new ≤ room_of self.old) × OnTrue result
+            (room_of self.new < room_of self.old) }
     {
         match symbol {
             Symbol::Terminal(t) => self.sets.insert(left, t),
@@ -69,7 +73,8 @@ impl FirstSets {
         ensures marked { null_of self.new left }
         ensures only { (n : ℕ) → null_of self.new n → null_of self.old n ⊎ (n ≡ left) }
         ensures same { OnFalse result (self.new.nullable ≡ self.old.nullable) }
-        ensures room { (room_of self.new ≤ room_of self.old) × OnTrue result (room_of self.new < room_of self.old) }
+        ensures room { (room_of self.new ≤ room_of self.old) × OnTrue result
+            (room_of self.new < room_of self.old) }
     {
         if self.nullable[left] {
             return false;
@@ -83,11 +88,14 @@ impl FirstSets {
         requires { ProductionFits self.old.sets.columns (vec_len self.old.nullable) production.now }
         ensures shape { SameShape self.old.sets self.new.sets }
         ensures len { vec_len self.new.nullable ≡ vec_len self.old.nullable }
-        ensures sound { (ps : List Production) → HasRule ps production.now.left production.now.right.items
+        ensures sound { (ps : List Production)
+            → HasRule ps production.now.left production.now.right.items
             → IsSound ps self.old → IsSound ps self.new }
-        ensures closed { OnFalse result (IsClosedFor self.new production.now.left production.now.right.items) }
+        ensures closed { OnFalse result
+            (IsClosedFor self.new production.now.left production.now.right.items) }
         ensures same { OnFalse result (IsSame self.old self.new) }
-        ensures room { (room_of self.new ≤ room_of self.old) × OnTrue result (room_of self.new < room_of self.old) }
+        ensures room { (room_of self.new ≤ room_of self.old) × OnTrue result
+            (room_of self.new < room_of self.old) }
     {
         let left = production.left;
         let mut changed = false;
@@ -107,12 +115,15 @@ impl FirstSets {
 
     // Adds what each production says, and answers whether something was new.
     fn round(&mut self, productions: &[Production]) -> bool
-        requires fits { All (ProductionFits self.old.sets.columns (vec_len self.old.nullable)) productions.now }
+        requires fits { All (ProductionFits self.old.sets.columns
+            (vec_len self.old.nullable)) productions.now }
         ensures shape { SameShape self.old.sets self.new.sets }
         ensures len { vec_len self.new.nullable ≡ vec_len self.old.nullable }
         ensures sound { IsSound productions.now self.old → IsSound productions.now self.new }
-        ensures closed { OnFalse result (All (λ p. IsClosedFor self.new p.left p.right.items) productions.now) }
-        ensures room { (room_of self.new ≤ room_of self.old) × OnTrue result (room_of self.new < room_of self.old) }
+        ensures closed { OnFalse result (All
+            (λ p. IsClosedFor self.new p.left p.right.items) productions.now) }
+        ensures room { (room_of self.new ≤ room_of self.old) × OnTrue result
+            (room_of self.new < room_of self.old) }
     {
         let mut changed = false;
         for production in productions {
@@ -127,7 +138,8 @@ impl FirstSets {
     pub fn new(alloc: Global, grammar: &Grammar) -> Result<FirstSets, AllocError>
         ensures exact { IfOk result (AreFirstSets grammar.now.productions.items) }
         ensures terminals { IfOk result (λ s. s.sets.columns ≡ vec_len grammar.now.terminals) }
-        ensures nonterminals { IfOk result (λ s. vec_len s.nullable ≡ vec_len grammar.now.nonterminals) }
+        ensures nonterminals { IfOk result (λ s. vec_len s.nullable
+            ≡ vec_len grammar.now.nonterminals) }
     {
         let nonterminals = grammar.nonterminals.len();
         let mut sets = FirstSets {
@@ -142,7 +154,8 @@ impl FirstSets {
     /// Whether the symbols derive nothing, in some derivation.
     pub fn is_nullable(&self, symbols: &[Symbol]) -> bool
         requires { All (SymbolFits self.now.sets.columns (vec_len self.now.nullable)) symbols.now }
-        ensures { (ps : List Production) → AreFirstSets ps self.now → IsTrue result ↔ Vanishes ps symbols.now }
+        ensures { (ps : List Production) → AreFirstSets ps self.now
+            → IsTrue result ↔ Vanishes ps symbols.now }
     {
         for symbol in symbols {
             if !self.may_be_empty(*symbol) {
@@ -155,8 +168,10 @@ impl FirstSets {
     /// Whether the symbols derive a form that begins with the terminal.
     pub fn begins_with(&self, symbols: &[Symbol], terminal: usize) -> bool
         requires terminal { terminal < self.now.sets.columns }
-        requires symbols { All (SymbolFits self.now.sets.columns (vec_len self.now.nullable)) symbols.now }
-        ensures { (ps : List Production) → AreFirstSets ps self.now → IsTrue result ↔ Begins ps symbols.now terminal }
+        requires symbols { All (SymbolFits self.now.sets.columns
+            (vec_len self.now.nullable)) symbols.now }
+        ensures { (ps : List Production) → AreFirstSets ps self.now
+            → IsTrue result ↔ Begins ps symbols.now terminal }
     {
         for symbol in symbols {
             if self.has(*symbol, terminal) {
