@@ -13,5 +13,5 @@ pub use decision::Decision;
 pub use entry::{Decided, Entry, Shifting};
 pub use group::{Group, Spot};
 pub use only::Only;
-pub use report::{Detail, Findings, Report, Summary};
+pub use report::{Counts, Detail, Findings, Report, Summary};
 pub use subject::Subject;

@@ -6,9 +6,19 @@ use crate::decision::Decisions;
 use crate::entry::{Entry, Sources, entry_of};
 use crate::group::{Group, by_rules, one_by_one};
 use crate::{Only, Subject};
-use automaton::{Alternatives, Automaton, Resolution, Resolved, Ways};
+use automaton::{Alternatives, Automaton, Other, Resolution, Resolved, Ways};
 use grammar::Grammar;
 use std::alloc::{AllocError, Global};
+use std::collections::HashSet;
+
+/// How many conflicts are left, as bison counts them.
+#[derive(Clone, Copy, Debug, PartialEq, Eq)]
+pub struct Counts {
+    /// At how many states and tokens a shift and a reduction are left.
+    pub shift_reduce: usize,
+    /// How many reductions are left beside the first of each state and token.
+    pub reduce_reduce: usize,
+}
 
 /// What was found out about a grammar.
 #[derive(Clone, Copy)]
@@ -17,6 +27,7 @@ pub struct Findings<'a> {
     pub automaton: &'a Automaton,
     /// All conflicts, each with how it comes out.
     pub conflicts: &'a [Resolved],
+    pub counts: Counts,
 }
 
 /// How much is told in one entry.
@@ -37,6 +48,7 @@ pub struct Summary {
     /// How many productions there are but that of `$accept`.
     pub productions: usize,
     pub states: usize,
+    pub counts: Counts,
     /// How many conflicts are left by their rules and token, whatever the state.
     pub distinct: usize,
     /// How many conflicts precedence settles, by state, token and production.
@@ -119,6 +131,20 @@ fn groups_of(
     }
 }
 
+// How many there are by their rules and token.
+fn distinct_count(alloc: Global, conflicts: &[Resolved]) -> Result<usize, AllocError> {
+    let mut met: HashSet<(usize, Option<usize>, usize)> = HashSet::new(alloc);
+    for resolved in conflicts {
+        let conflict = resolved.conflict;
+        let other = match conflict.other {
+            Other::Shift => None,
+            Other::Reduce(later) => Some(later),
+        };
+        let _ = met.insert((conflict.production, other, conflict.token))?;
+    }
+    Ok(met.len())
+}
+
 // What is said of each group.
 fn entries_of(
     alloc: Global,
@@ -168,6 +194,7 @@ impl Report {
             Shows (settled_of findings.now.conflicts.now) r.settled.items) }
         ensures whole { IfOk result (λ r. All IsWholeEntry r.entries.items) }
         ensures settled_whole { IfOk result (λ r. All IsWholeEntry r.settled.items) }
+        ensures counts { IfOk result (λ r. r.summary.counts ≡ findings.now.counts) }
         ensures nothing_left_out { IfOk result (λ r. (r.left_out ≡ 0) × (r.settled_left_out ≡ 0)) }
     {
         let grammar = findings.grammar;
@@ -184,7 +211,8 @@ impl Report {
             terminals: grammar.terminals.len(),
             productions: grammar.productions.len().saturating_sub(1),
             states: findings.automaton.states.len(),
-            distinct: 0,
+                counts: findings.counts,
+            distinct: distinct_count(alloc, open.as_slice())?,
             settled: settled.len(),
         };
         Ok(Report {

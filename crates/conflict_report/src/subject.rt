@@ -1,5 +1,5 @@
 use grammar::{Grammar, Production, Symbol};
-use source::{Lines, Span};
+use source::{Lines, Place, Span};
 
 /// A file, and the grammar that was read from it.
 #[derive(Clone, Copy)]
@@ -39,8 +39,13 @@ impl<'a> Subject<'a> {
         self.left(number).starts_with("$@")
     }
 
+    /// The place at which a part of the text begins.
+    pub fn place(&self, span: Span) -> Place {
+        self.lines.place(span.start.min(self.lines.text.len()))
+    }
+
     /// The line, from 1, on which a part of the text begins.
     pub fn line(&self, span: Span) -> usize {
-        self.lines.place(span.start.min(self.lines.text.len())).line
+        self.place(span).line
     }
 }

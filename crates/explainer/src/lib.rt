@@ -1,0 +1,20 @@
+//! From options to what is written and the status: reads each file, finds its conflicts and tells
+//! them.
+#![tactic(auto)]
+
+mod explain;
+mod expectation;
+mod finding;
+mod lines;
+mod options;
+mod running;
+mod status;
+
+pub use explain::{Outcome, explain};
+pub use expectation::expected_by;
+pub use options::{Expectation, Format, Mode, Options, Table};
+pub use running::run;
+pub use status::Status;
+
+/// The version of the command.
+pub const VERSION: &str = "1.0.0-dev";
