@@ -39,6 +39,19 @@ impl<'a> Subject<'a> {
         self.left(number).starts_with("$@")
     }
 
+    /// The line of the action among symbols that a nonterminal stands for, if it stands for one.
+    pub fn action_line(&self, nonterminal: usize) -> Option<usize> {
+        if !self.name(Symbol::Nonterminal(nonterminal)).starts_with("$@") {
+            return None;
+        }
+        for production in &self.grammar.productions {
+            if production.left == nonterminal {
+                return Some(self.line(production.span));
+            }
+        }
+        None
+    }
+
     /// The place at which a part of the text begins.
     pub fn place(&self, span: Span) -> Place {
         self.lines.place(span.start.min(self.lines.text.len()))

@@ -152,7 +152,7 @@ fn tell(
     }
     match options.mode {
         Mode::Check => push_check(out, name, &report, expected),
-        Mode::Explain => push_report(alloc, out, options, renderer, &subject, &report, expected),
+        Mode::Explain => push_report(out, options, renderer, &subject, &report, expected),
     }
 }
 

@@ -3,8 +3,8 @@ use crate::Options;
 use conflict_report::{Only, Report, Subject};
 use diagnostics::Renderer;
 use report_json::Expected;
-use report_text::{push_counts, push_entry, push_settled, summary_line};
-use std::alloc::{AllocError, Global};
+use report_text::{push_counts, push_entry, push_entry_count, push_settled, push_settled_count};
+use std::alloc::AllocError;
 
 // What was left out, as it was asked for.
 fn push_left_out(
@@ -28,7 +28,6 @@ fn push_left_out(
 
 /// Appends a report as text. The last line is how many conflicts there are.
 pub fn push_report(
-    alloc: Global,
     out: &mut String,
     options: &Options,
     renderer: &Renderer,
@@ -36,8 +35,8 @@ pub fn push_report(
     report: &Report,
     expected: Expected,
 ) -> Result<(), AllocError> {
-    let mut shown = 0usize;
-    let mut left_out = report.left_out;
+    let shown;
+    let left_out;
     if options.shows_settled {
         let mut before = None;
         for entry in &report.settled {
@@ -55,14 +54,16 @@ pub fn push_report(
             out.push('\n')?;
         }
         shown = report.entries.len();
+        left_out = report.left_out;
     }
     if left_out > 0 {
         push_left_out(out, options, left_out, shown)?;
     }
     push_name(out, options, renderer.name)?;
-    let line = summary_line(alloc, report)?;
-    out.push_str(line.as_str())?;
+    push_counts(out, report.summary.counts)?;
+    push_entry_count(out, report)?;
     push_expected(out, expected)?;
+    push_settled_count(out, report)?;
     out.push('\n')
 }
 

@@ -138,6 +138,25 @@ fn lines_of(alloc: Global, subject: &Subject, entry: &Entry) -> Result<Vec<Line>
     Ok(lines)
 }
 
+// A symbol by its name; an action among symbols by its line.
+fn push_symbol(
+    alloc: Global,
+    subject: &Subject,
+    symbol: Symbol,
+    note: &mut Note,
+) -> Result<(), AllocError> {
+    match symbol {
+        Symbol::Terminal(token) => note.push(token_words(subject, token)),
+        Symbol::Nonterminal(n) => match subject.action_line(n) {
+            Some(line) => {
+                let words = format!(in alloc; "{{line {line}}}")?;
+                note.push(words.as_str())
+            }
+            None => note.push(subject.name(symbol)),
+        },
+    }
+}
+
 // The symbols that lead to the conflict.
 fn after_note(alloc: Global, subject: &Subject, entry: &Entry) -> Result<Note, AllocError> {
     let mut note = Note::new(alloc);
@@ -146,10 +165,7 @@ fn after_note(alloc: Global, subject: &Subject, entry: &Entry) -> Result<Note, A
     } else {
         note.push("after:")?;
         for symbol in &entry.after {
-            note.push(match symbol {
-                Symbol::Nonterminal(_) => subject.name(*symbol),
-                Symbol::Terminal(token) => token_words(subject, *token),
-            })?;
+            push_symbol(alloc, subject, *symbol, &mut note)?;
         }
     }
     let others = entry.states.len().saturating_sub(1);
@@ -204,7 +220,11 @@ fn same_note(alloc: Global, subject: &Subject, entry: &Entry) -> Result<Option<N
             let comma = if i == 0 { "" } else { "," };
             write!(words, "{comma} {line}")?;
         }
-        words.push(')')?;
+        let is_shown = match shown {
+            Some(shown) => shown.token == *token,
+            None => false,
+        };
+        words.push_str(if is_shown { " too)" } else { ")" })?;
         names.push(words)?;
     }
     if names.is_empty() {

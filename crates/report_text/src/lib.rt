@@ -12,4 +12,4 @@ mod words;
 
 pub use entry::push_entry;
 pub use settled::push_settled;
-pub use summary::{push_counts, summary_line};
+pub use summary::{push_counts, push_entry_count, push_settled_count};

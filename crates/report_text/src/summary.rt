@@ -1,5 +1,5 @@
 use conflict_report::{Counts, Report};
-use std::alloc::{AllocError, Global};
+use std::alloc::AllocError;
 
 fn plural(count: usize) -> &'static str {
     if count == 1 { "" } else { "s" }
@@ -23,20 +23,22 @@ pub fn push_counts(out: &mut String, counts: Counts) -> Result<(), AllocError> {
     }
 }
 
-/// The last line of a report: how many conflicts there are, in how many entries, how many were left
-/// out, and how many precedence settles.
-pub fn summary_line(alloc: Global, report: &Report) -> Result<String, AllocError> {
-    let mut line = String::new(alloc);
+/// Appends in how many entries the conflicts are told, where that is not how many there are.
+pub fn push_entry_count(out: &mut String, report: &Report) -> Result<(), AllocError> {
     let counts = report.summary.counts;
-    push_counts(&mut line, counts)?;
     let entries = report.entries.len().saturating_add(report.left_out);
-    if entries != counts.shift_reduce.saturating_add(counts.reduce_reduce) {
-        let word = if entries == 1 { "y" } else { "ies" };
-        write!(line, " in {entries} entr{word}")?;
+    if entries == counts.shift_reduce.saturating_add(counts.reduce_reduce) {
+        return Ok(());
     }
+    let end = if entries == 1 { "y" } else { "ies" };
+    write!(out, " in {entries} entr{end}")
+}
+
+/// Appends how many conflicts precedence settles, where it settles some.
+pub fn push_settled_count(out: &mut String, report: &Report) -> Result<(), AllocError> {
     let settled = report.summary.settled;
-    if settled > 0 {
-        write!(line, "; {settled} settled by precedence")?;
+    if settled == 0 {
+        return Ok(());
     }
-    Ok(line)
+    write!(out, "; {settled} settled by precedence")
 }
