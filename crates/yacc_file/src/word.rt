@@ -1,3 +1,5 @@
+//! The tokens of a file with their names, each name once.
+
 ghost use Rattle.std.specs.Prelude.{◌≡◌, ◌<◌, ◌≤◌, [], ◌∷◌, ◌++◌, All, length, IfOk, OnOk, OnErr};
 ghost use Rattle.indexmap.specs.IndexSet.{index_set_len};
 ghost use Rattle.yacc_file.specs.Words.{WordFits, AreInOrder, IsAt};
@@ -15,15 +17,20 @@ pub struct Name {
     pub span: Span,
 }
 
-/// A token. One that is called by a name, as a character or a number is by its own, has that name's number; C code has a number that no other token has; and the rest have that of `error`, which means nothing there.
+/// A token. One that is called by a name, as a character, a number or a directive is by its own
+/// text, has that name's number. A piece of C code has a number that no other token has. The rest
+/// have that of `$end`, which means nothing there.
 #[derive(Clone, Copy, Debug, PartialEq, Eq)]
 pub struct Word {
     pub kind: TokenKind,
     pub name: Name,
 }
 
-/// The number of the token `error`, which each file has.
-pub const ERROR: usize = 0;
+/// The number of the name `$end`, which no file can spell.
+pub const END_NAME: usize = 0;
+
+/// The number of the name `error`.
+pub const ERROR_NAME: usize = 1;
 
 /// The tokens of a file, and its names, each once.
 #[derive(Drop)]
@@ -34,12 +41,13 @@ pub struct Words {
 }
 
 impl Words {
-    /// No tokens, and the name `error`.
+    // No tokens, and the names `$end` and `error`.
     fn new(alloc: Global) -> Result<Words, AllocError>
         ensures words { IfOk result (λ r. r.words.items ≡ []) }
         ensures names { IfOk result (λ r. 0 < index_set_len r.names) }
     {
         let mut names = IndexSet::new(alloc);
+        let (_, _) = names.insert_full(String::from_str(alloc, "$end")?)?;
         let (_, _) = names.insert_full(String::from_str(alloc, "error")?)?;
         Ok(Words {
             names,
@@ -53,7 +61,7 @@ impl Words {
         ensures names { index_set_len self.old.names ≤ index_set_len self.new.names }
         ensures words { OnOk result (IsAt span self.old.words.items self.new.words.items) }
     {
-        let mut id = ERROR;
+        let mut id = END_NAME;
         if let Some(name) = name {
             let (number, _) = self.names.insert_full(name)?;
             id = number;

@@ -1,145 +1,37 @@
-use crate::define::text_of;
+//! What is likely a mistake in a file whose names all stand for something.
+
+use crate::reach::{is_set, productive, reachable, set, used};
 use crate::table::Table;
-use diagnostics::{Diagnostic, Severity};
+use diagnostics::{Diagnostic, Reports};
 use grammar::{Grammar, Production, Symbol};
 use std::alloc::{AllocError, Global};
 use std::collections::HashMap;
 use yacc_file::{File, Name};
 
-fn is_set(flags: &[bool], index: usize) -> bool {
-    flags.get(index).copied().unwrap_or(false)
-}
-
-fn set(flags: &mut [bool], index: usize) {
-    if index < flags.len() {
-        flags[index] = true;
-    }
-}
-
-// Whether all symbols of a production derive terminals, as far as is known.
-fn is_productive(production: &Production, known: &[bool]) -> bool {
-    production.right.iter().all(|symbol| match symbol {
-        Symbol::Terminal(_) => true,
-        Symbol::Nonterminal(n) => is_set(known, *n),
-    })
-}
-
-// Marks the nonterminals that derive something by a production whose symbols do. Whether any was new.
-fn productive_round(productions: &[Production], known: &mut [bool]) -> bool {
-    let mut changed = false;
-    for production in productions {
-        if !is_set(known, production.left) && is_productive(production, known) {
-            set(known, production.left);
-            changed = true;
-        }
-    }
-    changed
-}
-
-// Which nonterminals derive a text.
-fn productive(alloc: Global, grammar: &Grammar) -> Result<Vec<bool>, AllocError> {
-    let count = grammar.nonterminals.len();
-    let mut known = vec![in alloc; false; count]?;
-    for _round in 0..count {
-        if !productive_round(grammar.productions.as_slice(), known.as_mut_slice()) {
-            break;
-        }
-    }
-    Ok(known)
-}
-
-fn reach(production: &Production, known: &mut [bool]) -> bool {
-    let mut changed = false;
-    for symbol in &production.right {
-        if let Symbol::Nonterminal(n) = *symbol
-            && !is_set(known, n)
-        {
-            set(known, n);
-            changed = true;
-        }
-    }
-    changed
-}
-
-// Marks the nonterminals that stand in productions of those marked. Whether any was new.
-fn reachable_round(productions: &[Production], known: &mut [bool]) -> bool {
-    let mut changed = false;
-    for production in productions {
-        if is_set(known, production.left) && reach(production, known) {
-            changed = true;
-        }
-    }
-    changed
-}
-
-// Which nonterminals stand in a form that the start derives.
-fn reachable(alloc: Global, grammar: &Grammar) -> Result<Vec<bool>, AllocError> {
-    let count = grammar.nonterminals.len();
-    let mut known = vec![in alloc; false; count]?;
-    if let Some(start) = grammar.start {
-        set(known.as_mut_slice(), start);
-    }
-    for _round in 0..count {
-        if !reachable_round(grammar.productions.as_slice(), known.as_mut_slice()) {
-            break;
-        }
-    }
-    Ok(known)
-}
-
-// Which terminals stand in a production, or give it a precedence.
-fn used(alloc: Global, grammar: &Grammar) -> Result<Vec<bool>, AllocError> {
-    let mut known = vec![in alloc; false; grammar.terminals.len()]?;
-    for production in &grammar.productions {
-        for symbol in &production.right {
-            if let Symbol::Terminal(t) = *symbol {
-                set(known.as_mut_slice(), t);
-            }
-        }
-        if let Some(t) = production.precedence {
-            set(known.as_mut_slice(), t);
-        }
-    }
-    Ok(known)
-}
-
-fn warn(
-    diagnostics: &mut Vec<Diagnostic>,
-    name: Name,
-    message: String,
-    help: Option<String>,
-) -> Result<(), AllocError> {
-    let mut diagnostic = Diagnostic::warning(name.span, message);
-    diagnostic.help = help;
-    diagnostics.push(diagnostic)?;
-    Ok(())
-}
-
-// Names the rules that derive nothing; of the start's it is an error.
+// Names the rules that derive no text; of the start's it is an error.
 fn check_productive(
     alloc: Global,
     file: &File,
     table: &Table,
-    diagnostics: &mut Vec<Diagnostic>,
+    reports: &mut Reports,
 ) -> Result<(), AllocError> {
     let mut known = productive(alloc, &table.grammar)?;
     for rule in &file.rules {
         let Symbol::Nonterminal(n) = table.symbol(rule.left.id) else {
             continue;
         };
-        if is_set(known.as_slice(), n) {
-            continue;
+        if set(known.as_mut_slice(), n) {
+            let name = file.text(rule.left);
+            let is_start = rule.left.id == table.start;
+            let message = format!(in alloc; "`{name}` derives no text: none of its alternatives comes to an end")?;
+            let diagnostic = if is_start {
+                Diagnostic::error(rule.left.span, message)
+            } else {
+                Diagnostic::warning(rule.left.span, message)
+            };
+            let help = format!(in alloc; "give it an alternative without `{name}`, and without other rules that lead back")?;
+            reports.push(diagnostic.with_help(help))?;
         }
-        set(known.as_mut_slice(), n);
-        let name = text_of(file, rule.left);
-        let message = format!(in alloc;
-            "`{name}` derives no text: each of its alternatives leads back to such a rule"
-        )?;
-        let mut diagnostic = Diagnostic::warning(rule.left.span, message);
-        if table.grammar.start == Some(n) {
-            diagnostic.severity = Severity::Error;
-        }
-        diagnostics.push(diagnostic)?;
     }
     Ok(())
 }
@@ -149,47 +41,79 @@ fn check_reachable(
     alloc: Global,
     file: &File,
     table: &Table,
-    diagnostics: &mut Vec<Diagnostic>,
+    reports: &mut Reports,
 ) -> Result<(), AllocError> {
     let mut known = reachable(alloc, &table.grammar)?;
     for rule in &file.rules {
         let Symbol::Nonterminal(n) = table.symbol(rule.left.id) else {
             continue;
         };
-        if is_set(known.as_slice(), n) {
-            continue;
+        if set(known.as_mut_slice(), n) {
+            let name = file.text(rule.left);
+            let message = format!(in alloc; "`{name}` is out of reach: no rule that the start leads to has it")?;
+            reports.push(Diagnostic::warning(rule.left.span, message))?;
         }
-        set(known.as_mut_slice(), n);
-        let name = text_of(file, rule.left);
-        let message = format!(in alloc;
-            "`{name}` is out of reach: no rule that the start leads to has it"
-        )?;
-        warn(diagnostics, rule.left, message, None)?;
     }
     Ok(())
 }
 
-// Names the tokens that no rule has.
+// Adds a name, if it is of a terminal that was not met yet.
+fn push_unused(
+    table: &Table,
+    met: &mut [bool],
+    unused: &mut Vec<Name>,
+    name: Name,
+) -> Result<(), AllocError> {
+    if let Symbol::Terminal(t) = table.symbol(name.id)
+        && set(met, t)
+    {
+        unused.push(name)?;
+    }
+    Ok(())
+}
+
+// The tokens that are declared, or have a precedence, and that no rule has.
+fn unused_tokens(alloc: Global, file: &File, table: &Table) -> Result<Vec<Name>, AllocError> {
+    let mut met = used(alloc, &table.grammar)?;
+    let mut unused = Vec::new(alloc);
+    for name in &file.tokens {
+        push_unused(table, met.as_mut_slice(), &mut unused, *name)?;
+    }
+    for group in &file.groups {
+        for name in &group.names {
+            push_unused(table, met.as_mut_slice(), &mut unused, *name)?;
+        }
+    }
+    Ok(unused)
+}
+
+// Names the tokens that no rule has, all in one.
 fn check_used(
     alloc: Global,
     file: &File,
     table: &Table,
-    diagnostics: &mut Vec<Diagnostic>,
+    reports: &mut Reports,
 ) -> Result<(), AllocError> {
-    let mut known = used(alloc, &table.grammar)?;
-    for name in &file.tokens {
-        let Symbol::Terminal(t) = table.symbol(name.id) else {
-            continue;
-        };
-        if is_set(known.as_slice(), t) {
-            continue;
-        }
-        set(known.as_mut_slice(), t);
-        let text = text_of(file, *name);
-        let message = format!(in alloc; "no rule has the token `{text}`")?;
-        warn(diagnostics, *name, message, None)?;
+    let unused = unused_tokens(alloc, file, table)?;
+    let Some(first) = unused.first() else {
+        return Ok(());
+    };
+    let span = first.span;
+    let count = unused.len();
+    let mut message = if count == 1 {
+        String::from_str(alloc, "no rule has the token")?
+    } else {
+        format!(in alloc; "no rule has these {count} tokens:")?
+    };
+    for (i, name) in unused.iter().enumerate() {
+        let comma = if i == 0 { "" } else { "," };
+        let text = file.text(*name);
+        message.push_str(comma)?;
+        message.push_str(" `")?;
+        message.push_str(text)?;
+        message.push_str("`")?;
     }
-    Ok(())
+    reports.push(Diagnostic::warning(span, message))
 }
 
 // A production as one list, its left side first.
@@ -200,24 +124,34 @@ fn key_of(alloc: Global, production: &Production) -> Result<Vec<Symbol>, AllocEr
     Ok(key)
 }
 
-// Names the productions that the grammar has twice.
+fn left_name<'a>(grammar: &'a Grammar, production: &Production) -> &'a str {
+    match grammar.nonterminals.get(production.left) {
+        Some(name) => name.as_str(),
+        None => "",
+    }
+}
+
+// Names the alternatives that a rule has twice.
 fn check_duplicates(
     alloc: Global,
     grammar: &Grammar,
-    diagnostics: &mut Vec<Diagnostic>,
+    reports: &mut Reports,
 ) -> Result<(), AllocError> {
     let mut seen: HashMap<Vec<Symbol>, usize> = HashMap::new(alloc);
-    for (i, production) in grammar.productions.iter().enumerate() {
+    for (index, production) in grammar.productions.iter().enumerate() {
         let key = key_of(alloc, production)?;
-        if seen.contains_key(key.as_slice()) {
-            let name = match grammar.nonterminals.get(production.left) {
-                Some(name) => name.as_str(),
-                None => "",
-            };
-            let message = format!(in alloc; "`{name}` has this alternative already")?;
-            diagnostics.push(Diagnostic::warning(production.span, message))?;
-        } else {
-            let _ = seen.insert(key, i)?;
+        let first = seen.get(key.as_slice()).copied();
+        match first.and_then(|first| grammar.productions.get(first)) {
+            Some(first) => {
+                let name = left_name(grammar, production);
+                let message = format!(in alloc; "`{name}` has this alternative twice")?;
+                let other = String::from_str(alloc, "the first is here")?;
+                let diagnostic = Diagnostic::warning(production.span, message);
+                reports.push(diagnostic.with_note(first.span, other))?;
+            }
+            None => {
+                let _ = seen.insert(key, index)?;
+            }
         }
     }
     Ok(())
@@ -228,30 +162,28 @@ fn check_typed(
     alloc: Global,
     file: &File,
     table: &Table,
-    diagnostics: &mut Vec<Diagnostic>,
+    reports: &mut Reports,
 ) -> Result<(), AllocError> {
     for name in &file.typed {
         if table.entry(name.id).is_none() {
-            let text = text_of(file, *name);
-            let message = format!(in alloc;
-                "`{text}` has a type, but is neither a token nor the name of a rule"
-            )?;
-            warn(diagnostics, *name, message, None)?;
+            let text = file.text(*name);
+            let message = format!(in alloc; "`{text}` is given a type, and is neither a token nor the name of a rule")?;
+            reports.push(Diagnostic::warning(name.span, message))?;
         }
     }
     Ok(())
 }
 
-/// Looks for what is likely a mistake in a file whose names all stand for something.
+/// Looks for what is likely a mistake.
 pub fn check(
     alloc: Global,
     file: &File,
     table: &Table,
-    diagnostics: &mut Vec<Diagnostic>,
+    reports: &mut Reports,
 ) -> Result<(), AllocError> {
-    check_productive(alloc, file, table, diagnostics)?;
-    check_reachable(alloc, file, table, diagnostics)?;
-    check_duplicates(alloc, &table.grammar, diagnostics)?;
-    check_used(alloc, file, table, diagnostics)?;
-    check_typed(alloc, file, table, diagnostics)
+    check_productive(alloc, file, table, reports)?;
+    check_reachable(alloc, file, table, reports)?;
+    check_duplicates(alloc, &table.grammar, reports)?;
+    check_used(alloc, file, table, reports)?;
+    check_typed(alloc, file, table, reports)
 }

@@ -1,76 +1,96 @@
+//! What the names of a file stand for, and what is wrong with them.
+
 ghost use Rattle.std.specs.Prelude.{◌≡◌, ◌<◌, All, IfOk, vec_len};
 
-use crate::nearest::nearest;
 use crate::table::Table;
-use diagnostics::Diagnostic;
+use diagnostics::{Diagnostic, Reports};
 use grammar::{Level, Symbol};
+use source::Span;
 use std::alloc::{AllocError, Global};
-use yacc_file::{Alias, Alternative, ERROR, File, Group, Name};
+use yacc_file::{Alias, Alternative, ERROR_NAME, File, Group, Name};
 
-/// Finds out what the names of a file stand for, and what is wrong with them.
+/// Finds out what the names of a file stand for.
 #[derive(Drop)]
 pub struct Definer {
     pub alloc: Global,
     pub table: Table,
-    pub diagnostics: Vec<Diagnostic>,
-    /// The actions that stand among symbols, in their order.
-    pub actions: Vec<Name>,
+    pub reports: Reports,
+    /// Where each name, by its number, is declared, and where it is given a precedence.
+    pub defined: Vec<Option<Span>>,
+    pub leveled: Vec<Option<Span>>,
+    /// How many actions stand among symbols.
+    pub actions: usize,
     ghost no_productions: { vec_len table.grammar.productions ≡ 0 },
 }
 
-/// The text of a name.
-pub fn text_of(file: &File, name: Name) -> &str {
-    match file.names.get_index(name.id) {
-        Some(text) => text.as_str(),
-        None => "",
+fn is_literal(text: &str) -> bool {
+    matches!(text.as_bytes().first(), Some(b'\'' | b'"'))
+}
+
+/// Whether a name of a file is one of a symbol. Those of directives, numbers and C code are not.
+pub fn is_symbol(text: &str) -> bool {
+    !matches!(text.as_bytes().first(), Some(b'%' | b'{' | b'$' | b'0'..=b'9') | None)
+}
+
+fn span_at(spans: &[Option<Span>], id: usize) -> Option<Span> {
+    spans.get(id).copied().flatten()
+}
+
+// Keeps the first place of a name.
+fn note_place(spans: &mut [Option<Span>], name: Name) {
+    if name.id < spans.len() && spans[name.id].is_none() {
+        spans[name.id] = Some(name.span);
     }
 }
 
-fn is_literal(text: &str) -> bool {
-    let bytes = text.as_bytes();
-    matches!(bytes.first(), Some(b'\'' | b'"'))
+fn no_spans(alloc: Global, count: usize) -> Result<Vec<Option<Span>>, AllocError> {
+    let mut spans = Vec::new(alloc);
+    for _ in 0..count {
+        spans.push(None)?;
+    }
+    Ok(spans)
 }
 
 impl Definer {
-    fn error(&mut self, name: Name, message: String, help: Option<String>) -> Result<(), AllocError>
+    /// Of the names of a file none is known but `$end` and `error`.
+    pub fn new(alloc: Global, file: &File) -> Result<Definer, AllocError> {
+        let names = file.names.len();
+        Ok(Definer {
+            alloc,
+            table: Table::new(alloc, names)?,
+            reports: Reports::new(alloc),
+            defined: no_spans(alloc, names)?,
+            leveled: no_spans(alloc, names)?,
+            actions: 0,
+        })
+    }
+
+    /// Adds a mistake, and the place that it has to do with, if there is one.
+    pub fn say(&mut self, diagnostic: Diagnostic, other: Option<Span>, what: &str)
+        -> Result<(), AllocError>
         ensures { self.new.table ≡ self.old.table }
     {
-        let mut diagnostic = Diagnostic::error(name.span, message);
-        diagnostic.help = help;
-        self.diagnostics.push(diagnostic)?;
-        Ok(())
+        match other {
+            Some(span) => {
+                let what = String::from_str(self.alloc, what)?;
+                self.reports.push(diagnostic.with_note(span, what))
+            }
+            None => self.reports.push(diagnostic),
+        }
     }
 
     // Makes a name a terminal.
     fn add_terminal(&mut self, file: &File, name: Name) -> Result<usize, AllocError>
         ensures { IfOk result (λ t. t < vec_len self.new.table.grammar.terminals) }
     {
-        let text = String::from_str(self.alloc, text_of(file, name))?;
+        let text = String::from_str(self.alloc, file.text(name))?;
         self.table.define_terminal(name.id, text)
     }
 
     fn add_nonterminal(&mut self, file: &File, name: Name) -> Result<(), AllocError> {
-        let text = String::from_str(self.alloc, text_of(file, name))?;
+        let text = String::from_str(self.alloc, file.text(name))?;
+        note_place(self.defined.as_mut_slice(), name);
         self.table.define_nonterminal(name.id, text)
-    }
-
-    /// Of the names of a file none is known.
-    pub fn new(alloc: Global, file: &File) -> Result<Definer, AllocError> {
-        Ok(Definer {
-            alloc,
-            table: Table::new(alloc, file.names.len())?,
-            diagnostics: Vec::new(alloc),
-            actions: Vec::new(alloc),
-        })
-    }
-
-    /// The token `error`, which each grammar has.
-    pub fn error_token(&mut self) -> Result<(), AllocError> {
-        if self.table.entry(ERROR).is_none() {
-            let name = String::from_str(self.alloc, "error")?;
-            let _ = self.table.define_terminal(ERROR, name)?;
-        }
-        Ok(())
     }
 
     /// The names of the rules are nonterminals.
@@ -79,22 +99,21 @@ impl Definer {
             if self.table.entry(rule.left.id).is_none() {
                 self.add_nonterminal(file, rule.left)?;
             }
-            if rule.left.id == ERROR {
-                let message = String::from_str(
-                    self.alloc,
-                    "`error` is a token of each grammar, and can have no rule",
-                )?;
-                self.error(rule.left, message, None)?;
+            if rule.left.id == ERROR_NAME {
+                let message = "`error` is a token of each grammar, and can have no rule";
+                let help = "give the rule another name";
+                self.reports.error(rule.left.span, message, help)?;
             }
         }
         Ok(())
     }
 
+    // The actions of an alternative, numbered from the ones before.
     fn actions_of(&mut self, alternative: &Alternative) -> Result<(), AllocError> {
         for item in &alternative.items {
             if item.is_action {
-                self.actions.push(item.name)?;
-                let number = self.actions.len();
+                let number = self.actions.saturating_add(1);
+                self.actions = number;
                 let name = format!(in self.alloc; "$@{number}")?;
                 self.table.define_nonterminal(item.name.id, name)?;
             }
@@ -116,20 +135,34 @@ impl Definer {
     fn declare(&mut self, file: &File, name: Name) -> Result<(), AllocError> {
         match self.table.entry(name.id) {
             None => {
+                note_place(self.defined.as_mut_slice(), name);
                 let _ = self.add_terminal(file, name)?;
                 Ok(())
             }
             Some(Symbol::Terminal(_)) => Ok(()),
             Some(Symbol::Nonterminal(_)) => {
-                let text = text_of(file, name);
-                let message = format!(in self.alloc;
-                    "`{text}` is declared as a token, and is the name of a rule"
-                )?;
-                self.error(name, message, None)
+                let text = file.text(name);
+                let message = format!(in self.alloc; "`{text}` is declared as a token, and has a rule")?;
+                let rule = span_at(self.defined.as_slice(), name.id);
+                self.say(Diagnostic::error(name.span, message), rule, "its rule is here")
             }
         }
     }
 
+    // A token that `%token` has.
+    fn token(&mut self, file: &File, name: Name) -> Result<(), AllocError> {
+        let first = span_at(self.defined.as_slice(), name.id);
+        if let (Some(Symbol::Terminal(_)), Some(span)) = (self.table.entry(name.id), first)
+            && span != name.span
+        {
+            let text = file.text(name);
+            let message = format!(in self.alloc; "the token `{text}` is declared twice")?;
+            return self.say(Diagnostic::warning(name.span, message), first, "the first is here");
+        }
+        self.declare(file, name)
+    }
+
+    // Lets a name stand for the token that it was given to.
     fn alias(&mut self, file: &File, alias: Alias) -> Result<(), AllocError> {
         match (
             self.table.entry(alias.text.id),
@@ -137,25 +170,53 @@ impl Definer {
         ) {
             (None, Some(symbol)) => {
                 self.table.set(alias.text.id, symbol);
+                note_place(self.defined.as_mut_slice(), alias.text);
                 Ok(())
             }
             (Some(_), _) => {
-                let text = text_of(file, alias.text);
+                let text = file.text(alias.text);
+                let first = span_at(self.defined.as_slice(), alias.text.id);
                 let message = format!(in self.alloc; "{text} stands for a token already")?;
-                self.error(alias.text, message, None)
+                self.say(Diagnostic::error(alias.text.span, message), first, "the first is here")
             }
             _ => Ok(()),
         }
     }
 
+    // The names with the numbers of `$end` and of `error` stand for these.
+    fn reserved(&mut self, file: &File) -> Result<(), AllocError> {
+        for alias in &file.aliases {
+            if alias.token.id <= ERROR_NAME {
+                self.alias(file, *alias)?;
+            }
+        }
+        Ok(())
+    }
+
     /// What `%token` declares are terminals, and strings may stand for them.
     pub fn tokens(&mut self, file: &File) -> Result<(), AllocError> {
+        self.reserved(file)?;
         for name in &file.tokens {
-            self.declare(file, *name)?;
+            self.token(file, *name)?;
         }
         for alias in &file.aliases {
-            self.alias(file, *alias)?;
+            if alias.token.id > ERROR_NAME {
+                self.alias(file, *alias)?;
+            }
         }
+        Ok(())
+    }
+
+    // A token on a level of precedence.
+    fn give_precedence(&mut self, file: &File, name: Name) -> Result<(), AllocError> {
+        self.declare(file, name)?;
+        let first = span_at(self.leveled.as_slice(), name.id);
+        if first.is_some() {
+            let text = file.text(name);
+            let message = format!(in self.alloc; "`{text}` is given a precedence twice")?;
+            return self.say(Diagnostic::error(name.span, message), first, "the first is here");
+        }
+        note_place(self.leveled.as_mut_slice(), name);
         Ok(())
     }
 
@@ -175,10 +236,11 @@ impl Definer {
 
     // The terminals of a level.
     fn terminals_of(&mut self, file: &File, group: &Group) -> Result<Vec<usize>, AllocError>
-        ensures { IfOk result (λ v. All (λ t. t < vec_len self.new.table.grammar.terminals) v.items) }
+        ensures { IfOk result
+            (λ v. All (λ t. t < vec_len self.new.table.grammar.terminals) v.items) }
     {
         for name in &group.names {
-            self.declare(file, *name)?;
+            self.give_precedence(file, *name)?;
         }
         let mut terminals = Vec::new(self.alloc);
         for name in &group.names {
@@ -194,57 +256,81 @@ impl Definer {
             self.table.add_level(Level {
                 associativity: group.associativity,
                 terminals,
+                span: group.span,
             })?;
         }
         Ok(())
     }
 
-    // The names that stand for something, of literals or of others, without those of actions.
+    // The names of symbols that are declared, of literals or of others.
     fn known<'a>(&self, file: &'a File, literals: bool) -> Result<Vec<&'a str>, AllocError> {
         let mut known = Vec::new(self.alloc);
         for (id, name) in file.names.iter().enumerate() {
             let text = name.as_str();
-            if self.table.entry(id).is_some()
-                && is_literal(text) == literals
-                && text.as_bytes().first() != Some(&b'{')
-            {
+            let is_declared = id == ERROR_NAME || span_at(self.defined.as_slice(), id).is_some();
+            if is_symbol(text) && is_literal(text) == literals && is_declared {
                 known.push(text)?;
             }
         }
         Ok(known)
     }
 
-    // The name that is meant, perhaps.
-    fn meant(&self, file: &File, text: &str, otherwise: &str) -> Result<String, AllocError> {
-        let known = self.known(file, is_literal(text))?;
-        match nearest(self.alloc, text, known.as_slice())? {
-            Some(other) => format!(in self.alloc; "there is `{other}`"),
-            None => String::from_str(self.alloc, otherwise),
+    // What may help where a name is not known: another name, or else some words.
+    fn help_for(&mut self, file: &File, text: &str, otherwise: &str) -> Result<String, AllocError>
+        ensures { self.new.table ≡ self.old.table }
+    {
+        if self.reports.hints > 0 {
+            let known = self.known(file, is_literal(text))?;
+            if let Some(other) = self.reports.meant(text, known.as_slice())? {
+                return format!(in self.alloc; "did you mean `{other}`?");
+            }
         }
+        String::from_str(self.alloc, otherwise)
     }
 
-    // Makes a name that was not declared a terminal. A name should have been declared, a string should stand for a token, and a character stands for itself.
+    // Makes a name that was not declared a terminal. A name should have been declared, a string should
+    // stand for a token, and a character stands for itself.
     fn undeclared(&mut self, file: &File, name: Name) -> Result<(), AllocError> {
-        let text = text_of(file, name);
+        let text = file.text(name);
         if !is_literal(text) {
-            let help = self.meant(file, text, "declare it by `%token`, or write a rule for it")?;
-            let message = format!(in self.alloc;
-                "`{text}` is neither a token nor the name of a rule"
-            )?;
-            self.error(name, message, Some(help))?;
+            let otherwise = "declare it by `%token`, or write a rule for it";
+            let help = self.help_for(file, text, otherwise)?;
+            let message = format!(in self.alloc; "`{text}` is neither a token nor the name of a rule")?;
+            self.reports
+                .push(Diagnostic::error(name.span, message).with_help(help))?;
         } else if text.as_bytes().first() == Some(&b'"') {
-            let help = self.meant(
-                file,
-                text,
-                "give it to a token, as in `%token NAME \"text\"`",
-            )?;
-            let message = format!(in self.alloc; "{text} stands for no token")?;
-            let mut diagnostic = Diagnostic::warning(name.span, message);
-            diagnostic.help = Some(help);
-            self.diagnostics.push(diagnostic)?;
+            let otherwise = "give it to a token, as in `%token NAME \"text\"`";
+            let help = self.help_for(file, text, otherwise)?;
+            let message = format!(in self.alloc; "the string {text} is given to no token")?;
+            self.reports
+                .push(Diagnostic::warning(name.span, message).with_help(help))?;
         }
         let _ = self.add_terminal(file, name)?;
         Ok(())
+    }
+
+    // The symbol that `%prec` names.
+    fn precedence(&mut self, file: &File, name: Name) -> Result<(), AllocError> {
+        let text = file.text(name);
+        match self.table.entry(name.id) {
+            None => {
+                let otherwise = "give it a precedence by `%left`, `%right`, `%nonassoc` or `%precedence`";
+                let help = self.help_for(file, text, otherwise)?;
+                let message = format!(in self.alloc;
+                    "`%prec` names `{text}`, which is declared nowhere, and so has no precedence"
+                )?;
+                self.reports
+                    .push(Diagnostic::warning(name.span, message).with_help(help))?;
+                let _ = self.add_terminal(file, name)?;
+                Ok(())
+            }
+            Some(Symbol::Terminal(_)) => Ok(()),
+            Some(Symbol::Nonterminal(_)) => {
+                let rule = span_at(self.defined.as_slice(), name.id);
+                let message = format!(in self.alloc; "`%prec` takes a token, and `{text}` is the name of a rule")?;
+                self.say(Diagnostic::error(name.span, message), rule, "its rule is here")
+            }
+        }
     }
 
     fn names_of(&mut self, file: &File, alternative: &Alternative) -> Result<(), AllocError> {
@@ -253,19 +339,9 @@ impl Definer {
                 self.undeclared(file, item.name)?;
             }
         }
-        let Some(name) = alternative.precedence else {
-            return Ok(());
-        };
-        match self.table.entry(name.id) {
-            None => self.undeclared(file, name),
-            Some(Symbol::Terminal(_)) => Ok(()),
-            Some(Symbol::Nonterminal(_)) => {
-                let text = text_of(file, name);
-                let message = format!(in self.alloc;
-                    "`%prec` takes a token, and `{text}` is the name of a rule"
-                )?;
-                self.error(name, message, None)
-            }
+        match alternative.precedence {
+            Some(name) => self.precedence(file, name),
+            None => Ok(()),
         }
     }
 

@@ -1,0 +1,13 @@
+%token A B C UNUSED
+%token A
+%left LOW HIGH
+%type <tree> lst list
+%%
+list: A list
+    | B B B
+    | A { first(); } B
+    | B B B  { again(); }
+    | %empty %prec HIHG
+    ;
+never: A never ;
+lost: "lost" C ;
