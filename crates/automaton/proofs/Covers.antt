@@ -1,5 +1,5 @@
 -- Tables that cover a closure.
-use Rattle.std.proofs.Common.{◌≡◌, ℕ, ◌+◌, ◌*◌, ◌/◌, ◌%◌, ◌<◌, ◌≤◌, ◌⊎◌, inl, inr, List, [], ◌∷◌, ◌++◌, length, get_or, refl, sym, ◌∙◌, ap, arith, take, All, below_more, Bool, true, false}
+use Rattle.std.proofs.Common.{◌≡◌, ℕ, ◌+◌, ◌*◌, ◌/◌, ◌%◌, ◌<◌, ◌≤◌, ◌⊎◌, inl, inr, List, [], ◌∷◌, ◌++◌, length, get_or, refl, sym, ◌∙◌, ap, arith, take, All, ◌↔◌}
 use Rattle.std.specs.Prelude.{Contains}
 use Rattle.std.proofs.Math.Nat.{mul-le-mul_right}
 use Rattle.std.proofs.lemmas.Nat.Bits.{bit_at-zero}
@@ -14,12 +14,13 @@ use Rattle.first_sets.specs.declared.sets.FirstSets.{FirstSets}
 use Rattle.first_sets.proofs.Textbook.{null_exact, first_exact}
 use Rattle.automaton.specs.declared.item.Item.{Item}
 use Rattle.automaton.specs.declared.automaton.Entry.{Entry}
-use Rattle.automaton.specs.declared.closure.Spread.{Spread}
-use Rattle.automaton.specs.Items.{left_of, rest_of, fresh, IsRule}
+use Rattle.automaton.specs.declared.alternatives.Alternatives.{Alternatives}
+use Rattle.automaton.specs.Items.{rest_of, fresh, IsRule}
+use Rattle.automaton.specs.Alternatives.{alternatives_of, AreAlternatives}
+use Rattle.automaton.specs.Reach.{IsReached, start, led}
 use Rattle.automaton.specs.Valid.{BeginsBefore}
 use Rattle.automaton.specs.States.{IsListed, InClosure, given, added}
-use Rattle.automaton.specs.Listing.{IsFirstOf, ListsRules}
-use Rattle.automaton.specs.Spreading.{IsSpread, IsSpreadAt, AreSpread, met_of}
+use Rattle.automaton.specs.Spreading.{IsFirstOf, IsSpread, IsSpreadAt, IsSpreadFrom, AreSpread, IsBehindDot}
 
 -- no bits past the last row
 pub no_row : (t : BitTable) (r c : ℕ) → t.rows ≤ r → Has t r c → ⊥
@@ -49,70 +50,69 @@ load_more tokens old new kernel xs i row d within keeps adds lists j t h =
           }
     ]
 
--- a fresh item of a nonterminal that is met, by its nonterminal's row
-pub record IsOfRule (g : Grammar) (s : Spread) (i : Item) (t : ℕ) : Type 0 where
+-- a fresh item of a nonterminal that is reached, by its nonterminal's row
+pub record IsOfRule (g : Grammar) (t : BitTable) (reached : List ℕ) (i : Item) (a : ℕ) : Type 0 where
+  pub left : ℕ
   pub rule : ℕ
-  pub within : rule < length g.productions.items
+  pub is_rule : IsRule g rule left
   pub item : i ≡ fresh rule
-  pub met : met_of s (left_of g rule)
-  pub has : Has s.table (left_of g rule) t
+  pub met : Contains reached left
+  pub has : Has t left a
 
-module _ (g : Grammar) (f : FirstSets) (s : Spread) (own : List Entry) where
+module _ (g : Grammar) (f : FirstSets) (s : Alternatives) (t : BitTable) (own : List Entry) (starts reached : List ℕ) where
   Covered : Item → ℕ → Type 0
-  Covered i t = IsListed s.table own i t ⊎ IsOfRule g s i t
+  Covered i a = IsListed t own i a ⊎ IsOfRule g t reached i a
 
-  module _ (exact : IsFirstOf g f) (by_own : All (IsSpreadAt g f s) own) (by_rules : AreSpread g f s (length g.productions.items)) where
-    given_at : (row n q a b : ℕ) (β xs : List Symbol) → IsSpread f s row xs → xs ≡ Nonterminal n ∷ β → Has s.table row a → IsRule g q n → BeginsBefore g β a b → IsOfRule g s (fresh q) b
-    given_at row n q a b β xs spread e has rule begins =
+  module _ (exact : IsFirstOf g f) (listed : AreAlternatives g s) (by_own : All (IsSpreadAt g f t) own) (by_rules : All (AreSpread g f s t) reached) where
+    given_at : (row n a b : ℕ) (β xs : List Symbol) → IsSpread f t row xs → xs ≡ Nonterminal n ∷ β → Has t row a → BeginsBefore g β a b → Has t n b
+    given_at row n a b β xs spread e has begins =
         let gives = spread n β e in
-        record {
-          rule = q;
-          within = rule.within;
-          item = refl;
-          met = rw rule.left gives.met;
-          has = rw rule.left (elim begins [
-            | inl h ↦ gives.begun b ((first_exact g.productions.items f exact.exact β b).1 h)
-            | inr h ↦ rw h.1 (gives.passed ((null_exact g.productions.items f exact.exact β).1 h.0) a has)
-          ]);
-        }
+        elim begins [
+          | inl h ↦ gives.begun b ((first_exact g.productions.items f exact.exact β b).1 h)
+          | inr h ↦ rw h.1 (gives.passed ((null_exact g.productions.items f exact.exact β).1 h.0) a has)
+        ]
 
-    covered_step : (i : Item) (n q a b : ℕ) (β : List Symbol) → Covered i a → rest_of g i ≡ Nonterminal n ∷ β → IsRule g q n → BeginsBefore g β a b → IsOfRule g s (fresh q) b
+    of_rule : (n q : ℕ) → Contains reached n → IsRule g q n → IsSpread f t n (rest_of g (fresh q))
+    of_rule n q met rule =
+        ((All-contains (AreSpread g f s t) reached n by_rules met).spread q ((listed.exact n q).1 rule)).spread
+
+    has_at : (i : Item) (n a b : ℕ) (β : List Symbol) → Covered i a → rest_of g i ≡ Nonterminal n ∷ β → BeginsBefore g β a b → Has t n b
     unfolding Covered
-    covered_step i n q a b β (inl h) e rule begins =
-        given_at h.entry.tokens n q a b β (rest_of g i) (rw h.item at ((All-contains (IsSpreadAt g f s) own h.entry by_own h.listed).spread)) e h.has rule begins
-    covered_step i n q a b β (inr h) e rule begins =
-        given_at (left_of g h.rule) n q a b β (rest_of g i) (rw h.item (by_rules h.rule h.within h.met)) e h.has rule begins
+    has_at i n a b β (inl h) e begins =
+        given_at h.entry.tokens n a b β (rest_of g i) (rw h.item at ((All-contains (IsSpreadAt g f t) own h.entry by_own h.listed).spread)) e h.has begins
+    has_at i n a b β (inr h) e begins =
+        given_at h.left n a b β (rest_of g i) (rw h.item (of_rule h.left h.rule h.met h.is_rule)) e h.has begins
 
-    module _ (tokens : BitTable) (kernel : List Entry) (lists : (i : Item) (t : ℕ) → IsListed tokens kernel i t → IsListed s.table own i t) where
-      covered : {i : Item} {t : ℕ} → InClosure g tokens kernel i t → Covered i t
+    module _ (tokens : BitTable) (kernel : List Entry) (lists : (i : Item) (a : ℕ) → IsListed tokens kernel i a → IsListed t own i a)
+        (behind : (n : ℕ) → Contains starts n ↔ IsBehindDot g kernel n) (met : (n : ℕ) → Contains reached n ↔ IsReached g starts n) where
+      reached_of : {i : Item} {a : ℕ} → InClosure g tokens kernel i a → (n : ℕ) (β : List Symbol) → rest_of g i ≡ Nonterminal n ∷ β → Contains reached n
+      reached_of (given h) n β e =
+          (met n).1 (start ((behind n).1 (record { entry = h.entry; listed = h.listed; leads = rw h.item (rw e refl) })))
+      reached_of (added m q γ d k rule begins) n β e = (met n).1 (led q ((met m).0 (reached_of d m γ k)) rule (rw e refl))
+
+      covered : {i : Item} {a : ℕ} → InClosure g tokens kernel i a → Covered i a
       unfolding Covered
       covered (given h) = inl (lists _ _ h)
-      covered (added n q β d e rule begins) = inr (covered_step _ n q _ _ β (covered d) e rule begins)
+      covered (added n q β d e rule begins) =
+          inr (record {
+            left = n;
+            rule = q;
+            is_rule = rule;
+            item = refl;
+            met = reached_of d n β e;
+            has = has_at _ n _ _ β (covered d) e begins;
+          })
 
-      pub covers : (entries : List Entry) → ((e : Entry) → Contains own e → Contains entries e) → ListsRules g s.met.items entries (length g.productions.items)
-          → (i : Item) (t : ℕ) → InClosure g tokens kernel i t → IsListed s.table entries i t
+      pub covers : (entries : List Entry) → ((e : Entry) → Contains own e → Contains entries e)
+          → ((n q : ℕ) → Contains reached n → Contains (alternatives_of s n) q → Contains entries (record { item = fresh q; tokens = n }))
+          → (i : Item) (a : ℕ) → InClosure g tokens kernel i a → IsListed t entries i a
       unfolding Covered
-      covers entries keeps rules i t d = elim (covered d) [
+      covers entries keeps rules i a d = elim (covered d) [
         | inl h ↦ record { entry = h.entry; listed = keeps h.entry h.listed; item = h.item; has = h.has }
-        | inr h ↦ record { entry = record { item = fresh h.rule; tokens = left_of g h.rule }; listed = rules h.rule h.within h.met; item = sym h.item; has = h.has }
+        | inr h ↦ record {
+            entry = record { item = fresh h.rule; tokens = h.left };
+            listed = rules h.left h.rule h.met ((listed.exact h.left h.rule).1 h.is_rule);
+            item = sym h.item;
+            has = h.has;
+          }
       ]
-
--- ---- one more production
-
-Lists : Grammar → List Bool → List Entry → ℕ → Type 0
-Lists g met entries q = get_or met (left_of g q) false ≡ true → Contains entries (record { item = fresh q; tokens = left_of g q })
-
-pub rules_more : (g : Grammar) (met : List Bool) (entries : List Entry) (i left : ℕ) → left_of g i ≡ left → ListsRules g met entries i
-    → ListsRules g met (entries ++ record { item = fresh i; tokens = left } ∷ []) (i + 1)
-unfolding Lists
-rules_more g met entries i left e lists =
-    let x : Entry = record { item = fresh i; tokens = left } in
-    below_more (Lists g met (entries ++ x ∷ [])) i
-    (λ q l m. Contains-append_left entries (x ∷ []) (record { item = fresh q; tokens = left_of g q }) (lists q l m))
-    (λ m. rw e (Contains-push entries x))
-
-pub rules_skip : (g : Grammar) (met : List Bool) (entries : List Entry) (i left : ℕ) → left_of g i ≡ left → get_or met left false ≡ false → ListsRules g met entries i
-    → ListsRules g met entries (i + 1)
-unfolding Lists
-rules_skip g met entries i left e off lists =
-    below_more (Lists g met entries) i lists (λ m. let bad : false ≡ true = sym off ∙ ap (λ n. get_or met n false) (sym e) ∙ m in cc)

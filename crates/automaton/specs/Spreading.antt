@@ -1,50 +1,51 @@
--- Tokens that spread over the rows of nonterminals.
-use Rattle.std.specs.Prelude.{ℕ, ◌≡◌, ◌≤◌, ◌<◌, ◌+◌, not, true, false, List, ◌∷◌, slice_index_or, count_by, vec_len}
-use Rattle.bit_table.specs.Bits.{room}
-use Rattle.bit_table.specs.Table.{Has, KeepsBits}
+-- Tokens that spread over the rows of a closure: a row for each nonterminal, and one for each item of the kernel.
+use Rattle.std.specs.Prelude.{ℕ, ◌≡◌, ◌≤◌, ◌+◌, List, ◌∷◌, Some, vec_len, Contains}
+use Rattle.bit_table.specs.Table.{Has}
+use Rattle.bit_table.specs.declared.table.BitTable.{BitTable}
 use Rattle.grammar.specs.declared.symbol.Symbol.{Symbol}
 use Rattle.grammar.specs.declared.symbol.Symbol.TheVariants.{Nonterminal}
 use Rattle.grammar.specs.declared.grammar.Grammar.{Grammar}
 use Rattle.first_sets.specs.declared.sets.FirstSets.{FirstSets}
-use Rattle.first_sets.specs.Sets.{AllNull, InFirst}
-use Rattle.automaton.specs.declared.closure.Spread.{Spread}
+use Rattle.first_sets.specs.Sets.{AreFirstSets, AllNull, InFirst}
 use Rattle.automaton.specs.declared.automaton.Entry.{Entry}
-use Rattle.automaton.specs.Items.{rest_of, fresh, left_of}
+use Rattle.automaton.specs.declared.alternatives.Alternatives.{Alternatives}
+use Rattle.automaton.specs.Alternatives.{alternatives_of}
+use Rattle.automaton.specs.Items.{rest_of, fresh}
+use Rattle.automaton.specs.Reach.{leading_of}
+
+-- the sets are FIRST of the grammar
+pub record IsFirstOf (g : Grammar) (s : FirstSets) : Type 0 where
+  pub exact : AreFirstSets g.productions.items s
+  pub terminals : s.sets.columns ≡ vec_len g.terminals
+  pub nonterminals : vec_len s.nullable ≡ vec_len g.nonterminals
 
 -- a row for each nonterminal, and a column for each token
-pub record IsSized (f : FirstSets) (s : Spread) : Type 0 where
-  pub met : vec_len s.met ≡ vec_len f.nullable
-  pub rows : vec_len f.nullable ≤ s.table.rows
-  pub columns : s.table.columns ≡ f.sets.columns + 1
+pub record IsSized (f : FirstSets) (t : BitTable) : Type 0 where
+  pub rows : vec_len f.nullable ≤ t.rows
+  pub columns : t.columns ≡ f.sets.columns + 1
 
--- the nonterminal stands behind a dot
-abbrev pub met_of : Spread → ℕ → Type 0
-met_of s n = slice_index_or s.met.items n false ≡ true
-
--- the nonterminal has what an item with these symbols behind its dot and the tokens of the row gives it
-pub record Gives (f : FirstSets) (s : Spread) (row n : ℕ) (behind : List Symbol) : Type 0 where
-  pub met : met_of s n
-  pub begun : (t : ℕ) → InFirst f behind t → Has s.table n t
-  pub passed : AllNull f behind → (t : ℕ) → Has s.table row t → Has s.table n t
+-- the nonterminal's row has what an item with these symbols behind it, and the tokens of the item's row, give it
+pub record Gives (f : FirstSets) (t : BitTable) (row n : ℕ) (behind : List Symbol) : Type 0 where
+  pub begun : (a : ℕ) → InFirst f behind a → Has t n a
+  pub passed : AllNull f behind → (a : ℕ) → Has t row a → Has t n a
 
 -- whatever nonterminal is behind the dot
-abbrev pub IsSpread : FirstSets → Spread → ℕ → List Symbol → Type 0
-IsSpread f s row symbols = (n : ℕ) (behind : List Symbol) → symbols ≡ Nonterminal n ∷ behind → Gives f s row n behind
+abbrev pub IsSpread : FirstSets → BitTable → ℕ → List Symbol → Type 0
+IsSpread f t row symbols =
+    (n : ℕ) (behind : List Symbol) → symbols ≡ Nonterminal n ∷ behind → Gives f t row n behind
 
-pub record KeepsAll (old new : Spread) : Type 0 where
-  pub rows : new.table.rows ≡ old.table.rows
-  pub columns : new.table.columns ≡ old.table.columns
-  pub len : vec_len new.met ≡ vec_len old.met
-  pub bits : KeepsBits old.table new.table
-  pub met : (n : ℕ) → met_of old n → met_of new n
+-- of an entry, of one production of a nonterminal, and of all its productions
+pub record IsSpreadAt (g : Grammar) (f : FirstSets) (t : BitTable) (e : Entry) : Type 0 where
+  pub spread : IsSpread f t e.tokens (rest_of g e.item)
 
-abbrev pub room_of : Spread → ℕ
-room_of s = room s.table.words.items + count_by not s.met.items
+pub record IsSpreadFrom (g : Grammar) (f : FirstSets) (t : BitTable) (n q : ℕ) : Type 0 where
+  pub spread : IsSpread f t n (rest_of g (fresh q))
 
--- what an entry says was given
-pub record IsSpreadAt (g : Grammar) (f : FirstSets) (s : Spread) (e : Entry) : Type 0 where
-  pub spread : IsSpread f s e.tokens (rest_of g e.item)
+pub record AreSpread (g : Grammar) (f : FirstSets) (a : Alternatives) (t : BitTable) (n : ℕ) : Type 0 where
+  pub spread : (q : ℕ) → Contains (alternatives_of a n) q → IsSpreadFrom g f t n q
 
--- and what the productions below a number say
-abbrev pub AreSpread : Grammar → FirstSets → Spread → ℕ → Type 0
-AreSpread g f s count = (q : ℕ) → q < count → met_of s (left_of g q) → IsSpread f s (left_of g q) (rest_of g (fresh q))
+-- the nonterminal stands behind the dot of an item of the kernel
+pub record IsBehindDot (g : Grammar) (kernel : List Entry) (n : ℕ) : Type 0 where
+  pub entry : Entry
+  pub listed : Contains kernel entry
+  pub leads : leading_of (rest_of g entry.item) ≡ Some n

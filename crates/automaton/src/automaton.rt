@@ -1,5 +1,5 @@
 ghost use Rattle.std.specs.Prelude.{◌≡◌};
-ghost use Rattle.automaton.specs.Targets.{target_in};
+ghost use Rattle.automaton.specs.Targets.{same_symbol, target_in};
 
 use crate::Item;
 use bit_table::BitTable;
@@ -33,12 +33,28 @@ pub struct Automaton {
     pub tokens: BitTable,
 }
 
+// Whether two symbols are one.
+fn is_same(a: Symbol, b: Symbol) -> bool
+    ensures { result ≡ same_symbol a b }
+{
+    match a {
+        Symbol::Terminal(t) => match b {
+            Symbol::Terminal(u) => t == u,
+            Symbol::Nonterminal(_) => false,
+        },
+        Symbol::Nonterminal(n) => match b {
+            Symbol::Terminal(_) => false,
+            Symbol::Nonterminal(m) => n == m,
+        },
+    }
+}
+
 /// Where the first transition over the symbol leads.
 pub fn target(transitions: &[Transition], symbol: Symbol) -> Option<usize>
     ensures { result ≡ target_in transitions.now symbol }
 {
     for transition in transitions {
-        if transition.symbol == symbol {
+        if is_same(transition.symbol, symbol) {
             return Some(transition.to);
         }
     }

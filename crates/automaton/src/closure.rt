@@ -1,4 +1,4 @@
-ghost use Rattle.std.specs.Prelude.{◌≡◌, ℕ, ◌+◌, ◌<◌, ◌≤◌, ◌↔◌, not, true, false, All, Contains, IsTrue, IfOk, OnOk, length, vec_len, slice_index_or, count_by};
+ghost use Rattle.std.specs.Prelude.{◌≡◌, ℕ, ◌+◌, ◌<◌, ◌≤◌, ◌↔◌, All, Contains, IsTrue, IfOk, OnOk, length, vec_len};
 ghost use Rattle.std.specs.Bool.{OnTrue, OnFalse};
 ghost use Rattle.bit_table.specs.Bits.{room};
 ghost use Rattle.bit_table.specs.Table.{Has, SameShape, KeepsBits};
@@ -7,9 +7,11 @@ ghost use Rattle.first_sets.specs.Sets.{SymbolNull, SymbolFirst, AllNull, InFirs
 ghost use Rattle.automaton.specs.declared.item.Item.{Item};
 ghost use Rattle.automaton.specs.declared.automaton.Entry.{Entry};
 ghost use Rattle.automaton.specs.States.{IsListed, InClosure};
-ghost use Rattle.automaton.specs.Listing.{IsFirstOf, ListsRules};
+ghost use Rattle.automaton.specs.Items.{fresh};
+ghost use Rattle.automaton.specs.Alternatives.{alternatives_of, AreAlternatives};
+ghost use Rattle.automaton.specs.Spreading.{IsFirstOf, IsSized, IsSpread, IsSpreadAt, IsSpreadFrom, AreSpread, IsBehindDot};
 
-use crate::{Entry, Item, rest};
+use crate::{Alternatives, Entry, Item, leading, reachable, rest};
 use bit_table::BitTable;
 use first_sets::FirstSets;
 use grammar::{Grammar, Symbol};
@@ -26,8 +28,8 @@ fn may_be_empty(first: &FirstSets, symbol: Symbol) -> bool
     }
 }
 
-// Whether all may be empty.
-fn may_all_be_empty(first: &FirstSets, symbols: &[Symbol]) -> bool
+/// Whether all may be empty.
+pub fn may_all_be_empty(first: &FirstSets, symbols: &[Symbol]) -> bool
     requires { All (SymbolFits first.now.sets.columns (vec_len first.now.nullable)) symbols.now }
     ensures { IsTrue result ↔ AllNull first.now symbols.now }
 {
@@ -57,8 +59,8 @@ fn add_symbol(table: &mut BitTable, first: &FirstSets, row: usize, symbol: Symbo
     }
 }
 
-// Adds what begins the symbols to a row, and answers whether some of that is new.
-fn add_first(table: &mut BitTable, first: &FirstSets, row: usize, symbols: &[Symbol]) -> bool
+/// Adds what begins the symbols to a row, and answers whether some of that is new.
+pub fn add_first(table: &mut BitTable, first: &FirstSets, row: usize, symbols: &[Symbol]) -> bool
     requires row { row < table.old.rows }
     requires columns { first.now.sets.columns ≤ table.old.columns }
     requires symbols { All (SymbolFits first.now.sets.columns (vec_len first.now.nullable)) symbols.now }
@@ -106,135 +108,132 @@ fn add_passed(
     }
 }
 
-// Sets a flag, and answers whether it was not set.
-fn mark(flags: &mut [bool], i: usize) -> bool
-    requires { i < length flags.old }
-    ensures len { length flags.new ≡ length flags.old }
-    ensures marked { slice_index_or flags.new i false ≡ true }
-    ensures keeps { (k : ℕ) → slice_index_or flags.old k false ≡ true → slice_index_or flags.new k false ≡ true }
-    ensures same { OnFalse result (flags.new ≡ flags.old) }
-    ensures room { (count_by not flags.new ≤ count_by not flags.old)
-        × OnTrue result (count_by not flags.new < count_by not flags.old) }
+// Gives the row of the nonterminal behind a dot what the symbols behind it and the tokens of the item's row say, and
+// answers whether that is new.
+fn give(table: &mut BitTable, first: &FirstSets, row: usize, symbols: &[Symbol]) -> bool
+    requires sized { IsSized first.now table.old }
+    requires row { row < table.old.rows }
+    requires symbols { All (SymbolFits first.now.sets.columns (vec_len first.now.nullable)) symbols.now }
+    ensures shape { SameShape table.old table.new }
+    ensures keeps { KeepsBits table.old table.new }
+    ensures spread { OnFalse result (IsSpread first.now table.new row symbols.now) }
+    ensures same { OnFalse result (KeepsBits table.new table.old) }
+    ensures room { (room table.new.words.items ≤ room table.old.words.items)
+        × OnTrue result (room table.new.words.items < room table.old.words.items) }
 {
-    if flags[i] {
+    let Some((symbol, behind)) = symbols.split_first() else {
         return false;
-    }
-    flags[i] = true;
-    true
+    };
+    let Symbol::Nonterminal(n) = *symbol else {
+        return false;
+    };
+    let begun = add_first(table, first, n, behind);
+    let passed = add_passed(table, first, n, row, behind);
+    begun || passed
 }
 
-// Of each nonterminal the tokens of its items, behind them rows for a kernel's, and whether it stands behind a dot.
-#[derive(Drop)]
-struct Spread {
-    table: BitTable,
-    met: Vec<bool>,
+// Gives what the items of the kernel say, and answers whether that is new.
+fn give_kernel(table: &mut BitTable, grammar: &Grammar, first: &FirstSets, kernel: &[Entry]) -> bool
+    requires first { IsFirstOf grammar.now first.now }
+    requires sized { IsSized first.now table.old }
+    requires rows { All (λ e. e.tokens < table.old.rows) kernel.now }
+    ensures shape { SameShape table.old table.new }
+    ensures keeps { KeepsBits table.old table.new }
+    ensures spread { OnFalse result (All (IsSpreadAt grammar.now first.now table.new) kernel.now) }
+    ensures same { OnFalse result (KeepsBits table.new table.old) }
+    ensures room { (room table.new.words.items ≤ room table.old.words.items)
+        × OnTrue result (room table.new.words.items < room table.old.words.items) }
+{
+    let mut changed = false;
+    for entry in kernel {
+        if give(table, first, entry.tokens, rest(grammar, entry.item)) {
+            changed = true;
+        }
+    }
+    changed
 }
 
-impl Spread {
-    ghost use Rattle.automaton.specs.Items.{rest_of, fresh, left_of};
-    ghost use Rattle.automaton.specs.Spreading.{IsSized, IsSpread, IsSpreadAt, AreSpread, KeepsAll, met_of, room_of};
-
-    // Gives the nonterminal behind a dot what the symbols behind it and the tokens of the row say, and answers whether that is new.
-    fn give(&mut self, first: &FirstSets, row: usize, symbols: &[Symbol]) -> bool
-        requires sized { IsSized first.now self.old }
-        requires row { row < self.old.table.rows }
-        requires symbols { All (SymbolFits first.now.sets.columns (vec_len first.now.nullable)) symbols.now }
-        ensures keeps { KeepsAll self.old self.new }
-        ensures spread { OnFalse result (IsSpread first.now self.new row symbols.now) }
-        ensures same { OnFalse result (KeepsAll self.new self.old) }
-        ensures room { (room_of self.new ≤ room_of self.old) × OnTrue result (room_of self.new < room_of self.old) }
-    {
-        let Some((symbol, behind)) = symbols.split_first() else {
-            return false;
-        };
-        let Symbol::Nonterminal(n) = *symbol else {
-            return false;
-        };
-        let met = mark(&mut self.met, n);
-        let begun = add_first(&mut self.table, first, n, behind);
-        let passed = add_passed(&mut self.table, first, n, row, behind);
-        met || begun || passed
-    }
-
-    // Gives what the items of the kernel say, and answers whether that is new.
-    fn give_kernel(&mut self, grammar: &Grammar, first: &FirstSets, kernel: &[Entry]) -> bool
-        requires first { IsFirstOf grammar.now first.now }
-        requires sized { IsSized first.now self.old }
-        requires rows { All (λ e. e.tokens < self.old.table.rows) kernel.now }
-        ensures keeps { KeepsAll self.old self.new }
-        ensures spread { OnFalse result (All (IsSpreadAt grammar.now first.now self.new) kernel.now) }
-        ensures same { OnFalse result (KeepsAll self.new self.old) }
-        ensures room { (room_of self.new ≤ room_of self.old) × OnTrue result (room_of self.new < room_of self.old) }
-    {
-        let mut changed = false;
-        for entry in kernel {
-            if self.give(first, entry.tokens, rest(grammar, entry.item)) {
-                changed = true;
-            }
-        }
-        changed
-    }
-
-    // Gives what the productions of the nonterminals say that stand behind a dot, and answers whether that is new.
-    fn give_rules(&mut self, grammar: &Grammar, first: &FirstSets) -> bool
-        requires first { IsFirstOf grammar.now first.now }
-        requires sized { IsSized first.now self.old }
-        ensures keeps { KeepsAll self.old self.new }
-        ensures spread { OnFalse result (AreSpread grammar.now first.now self.new (length grammar.now.productions.items)) }
-        ensures same { OnFalse result (KeepsAll self.new self.old) }
-        ensures room { (room_of self.new ≤ room_of self.old) × OnTrue result (room_of self.new < room_of self.old) }
-    {
-        let mut changed = false;
-        for (q, production) in grammar.productions.iter().enumerate() {
-            if self.give_rule(grammar, first, q, production.left) {
-                changed = true;
-            }
-        }
-        changed
-    }
-
-    // Gives what one production says, if its nonterminal stands behind a dot, and answers whether that is new.
-    fn give_rule(&mut self, grammar: &Grammar, first: &FirstSets, q: usize, left: usize) -> bool
-        requires first { IsFirstOf grammar.now first.now }
-        requires sized { IsSized first.now self.old }
-        requires left { left < vec_len grammar.now.nonterminals }
-        ensures keeps { KeepsAll self.old self.new }
-        ensures spread { OnFalse result (met_of self.new left → IsSpread first.now self.new left (rest_of grammar.now (fresh q))) }
-        ensures same { OnFalse result (KeepsAll self.new self.old) }
-        ensures room { (room_of self.new ≤ room_of self.old) × OnTrue result (room_of self.new < room_of self.old) }
-    {
-        if !self.met[left] {
-            return false;
-        }
+// Gives what the productions of one nonterminal say, and answers whether that is new.
+fn give_alternatives(
+    table: &mut BitTable,
+    grammar: &Grammar,
+    first: &FirstSets,
+    left: usize,
+    productions: &[usize],
+) -> bool
+    requires first { IsFirstOf grammar.now first.now }
+    requires sized { IsSized first.now table.old }
+    requires left { left < table.old.rows }
+    ensures shape { SameShape table.old table.new }
+    ensures keeps { KeepsBits table.old table.new }
+    ensures spread { OnFalse result (All (IsSpreadFrom grammar.now first.now table.new left) productions.now) }
+    ensures same { OnFalse result (KeepsBits table.new table.old) }
+    ensures room { (room table.new.words.items ≤ room table.old.words.items)
+        × OnTrue result (room table.new.words.items < room table.old.words.items) }
+{
+    let mut changed = false;
+    for q in productions {
         let item = Item {
-            production: q,
+            production: *q,
             dot: 0,
         };
-        self.give(first, left, rest(grammar, item))
+        if give(table, first, left, rest(grammar, item)) {
+            changed = true;
+        }
     }
-
-    // Gives what all say, and answers whether that is new.
-    fn round(&mut self, grammar: &Grammar, first: &FirstSets, kernel: &[Entry]) -> bool
-        requires first { IsFirstOf grammar.now first.now }
-        requires sized { IsSized first.now self.old }
-        requires rows { All (λ e. e.tokens < self.old.table.rows) kernel.now }
-        ensures keeps { KeepsAll self.old self.new }
-        ensures kernel { OnFalse result (All (IsSpreadAt grammar.now first.now self.new) kernel.now) }
-        ensures rules { OnFalse result (AreSpread grammar.now first.now self.new (length grammar.now.productions.items)) }
-        ensures room { (room_of self.new ≤ room_of self.old) × OnTrue result (room_of self.new < room_of self.old) }
-    {
-        let by_kernel = self.give_kernel(grammar, first, kernel);
-        let by_rules = self.give_rules(grammar, first);
-        by_kernel || by_rules
-    }
+    changed
 }
 
-/// The items of a state: each with the row of its tokens.
-#[derive(Debug, Drop)]
-pub struct Closure {
-    pub table: BitTable,
-    pub entries: Vec<Entry>,
-    ghost in_range: { All (λ e. e.tokens < table.rows) entries.items },
+// Gives what the productions of the nonterminals say, and answers whether that is new.
+fn give_rules(
+    table: &mut BitTable,
+    grammar: &Grammar,
+    first: &FirstSets,
+    alternatives: &Alternatives,
+    reached: &[usize],
+) -> bool
+    requires first { IsFirstOf grammar.now first.now }
+    requires sized { IsSized first.now table.old }
+    requires reached { All (λ n. n < table.old.rows) reached.now }
+    ensures shape { SameShape table.old table.new }
+    ensures keeps { KeepsBits table.old table.new }
+    ensures spread { OnFalse result (All (AreSpread grammar.now first.now alternatives.now table.new) reached.now) }
+    ensures same { OnFalse result (KeepsBits table.new table.old) }
+    ensures room { (room table.new.words.items ≤ room table.old.words.items)
+        × OnTrue result (room table.new.words.items < room table.old.words.items) }
+{
+    let mut changed = false;
+    for n in reached {
+        if give_alternatives(table, grammar, first, *n, alternatives.of(*n)) {
+            changed = true;
+        }
+    }
+    changed
+}
+
+// Gives what all say, and answers whether that is new.
+fn round(
+    table: &mut BitTable,
+    grammar: &Grammar,
+    first: &FirstSets,
+    alternatives: &Alternatives,
+    reached: &[usize],
+    kernel: &[Entry],
+) -> bool
+    requires first { IsFirstOf grammar.now first.now }
+    requires sized { IsSized first.now table.old }
+    requires reached { All (λ n. n < table.old.rows) reached.now }
+    requires rows { All (λ e. e.tokens < table.old.rows) kernel.now }
+    ensures shape { SameShape table.old table.new }
+    ensures keeps { KeepsBits table.old table.new }
+    ensures kernel { OnFalse result (All (IsSpreadAt grammar.now first.now table.new) kernel.now) }
+    ensures rules { OnFalse result (All (AreSpread grammar.now first.now alternatives.now table.new) reached.now) }
+    ensures room { (room table.new.words.items ≤ room table.old.words.items)
+        × OnTrue result (room table.new.words.items < room table.old.words.items) }
+{
+    let by_kernel = give_kernel(table, grammar, first, kernel);
+    let by_rules = give_rules(table, grammar, first, alternatives, reached);
+    by_kernel || by_rules
 }
 
 // Copies the tokens of a kernel into the last rows, and lists its items with those.
@@ -265,56 +264,110 @@ fn load(
     Ok(entries)
 }
 
-// Lists the productions whose nonterminals are met, each with its nonterminal's row.
-fn list_rules(grammar: &Grammar, met: &[bool], entries: &mut Vec<Entry>) -> Result<(), AllocError>
-    requires { length met.now ≡ vec_len grammar.now.nonterminals }
+// Takes all bits of the rows away that a closure uses.
+fn clear(table: &mut BitTable, reached: &[usize], count: usize)
+    requires reached { All (λ n. n < table.old.rows) reached.now }
+    requires count { count ≤ table.old.rows }
+    ensures { SameShape table.old table.new }
+{
+    for n in reached {
+        table.clear_row(*n);
+    }
+    let base = table.rows - count;
+    for i in 0..count {
+        table.clear_row(base + i);
+    }
+}
+
+/// The nonterminals behind the dots of a kernel.
+pub fn behind_dots(alloc: Global, grammar: &Grammar, kernel: &[Entry]) -> Result<Vec<usize>, AllocError>
+    ensures in_range { IfOk result (λ v. All (λ n. n < vec_len grammar.now.nonterminals) v.items) }
+    ensures exact { IfOk result (λ v. (n : ℕ) → Contains v.items n ↔ IsBehindDot grammar.now kernel.now n) }
+{
+    let mut starts = Vec::new(alloc);
+    for entry in kernel {
+        if let Some(n) = leading(rest(grammar, entry.item)) {
+            starts.push(n)?;
+        }
+    }
+    Ok(starts)
+}
+
+// Lists the productions of a nonterminal, each with the nonterminal's row.
+fn list_alternatives(left: usize, productions: &[usize], entries: &mut Vec<Entry>) -> Result<(), AllocError>
     ensures keeps { OnOk result ((e : Entry) → Contains entries.old.items e → Contains entries.new.items e) }
-    ensures adds { OnOk result (ListsRules grammar.now met.now entries.new.items (length grammar.now.productions.items)) }
-    ensures in_range { (rows : ℕ) → vec_len grammar.now.nonterminals ≤ rows
+    ensures adds { OnOk result ((q : ℕ) → Contains productions.now q
+        → Contains entries.new.items (record { item = fresh q; tokens = left })) }
+    ensures in_range { (rows : ℕ) → left < rows
         → All (λ e. e.tokens < rows) entries.old.items → All (λ e. e.tokens < rows) entries.new.items }
 {
-    for (q, production) in grammar.productions.iter().enumerate() {
-        let wanted = met[production.left];
-        if wanted {
-            entries.push(Entry {
-                item: Item {
-                    production: q,
-                    dot: 0,
-                },
-                tokens: production.left,
-            })?;
-        }
+    for q in productions {
+        entries.push(Entry {
+            item: Item {
+                production: *q,
+                dot: 0,
+            },
+            tokens: left,
+        })?;
     }
     Ok(())
 }
 
-/// The items of a state with this kernel: all of its closure.
+// Lists the productions of the nonterminals, each with its nonterminal's row.
+fn list_rules(
+    alternatives: &Alternatives,
+    reached: &[usize],
+    entries: &mut Vec<Entry>,
+) -> Result<(), AllocError>
+    ensures keeps { OnOk result ((e : Entry) → Contains entries.old.items e → Contains entries.new.items e) }
+    ensures adds { OnOk result ((n q : ℕ) → Contains reached.now n → Contains (alternatives_of alternatives.now n) q
+        → Contains entries.new.items (record { item = fresh q; tokens = n })) }
+    ensures in_range { (rows : ℕ) → All (λ n. n < rows) reached.now
+        → All (λ e. e.tokens < rows) entries.old.items → All (λ e. e.tokens < rows) entries.new.items }
+{
+    for n in reached {
+        list_alternatives(*n, alternatives.of(*n), entries)?;
+    }
+    Ok(())
+}
+
+/// The items of a state with this kernel, all of its closure, each with the row of its tokens. The rows are in
+/// `table`, which serves one closure after the other: what it had before is lost.
 pub fn close(
     alloc: Global,
     grammar: &Grammar,
     first: &FirstSets,
+    alternatives: &Alternatives,
     tokens: &BitTable,
     kernel: &[Entry],
-) -> Result<Closure, AllocError>
+    table: &mut BitTable,
+) -> Result<Vec<Entry>, AllocError>
     requires first { IsFirstOf grammar.now first.now }
+    requires alternatives { AreAlternatives grammar.now alternatives.now }
     requires columns { tokens.now.columns ≤ vec_len grammar.now.terminals + 1 }
-    ensures columns { IfOk result (λ c. c.table.columns ≡ vec_len grammar.now.terminals + 1) }
-    ensures covers { IfOk result (λ c. (i : Item) (t : ℕ) → InClosure grammar.now tokens.now kernel.now i t → IsListed c.table c.entries.items i t) }
+    ensures columns { IfOk result (λ v. table.new.columns ≡ vec_len grammar.now.terminals + 1) }
+    ensures in_range { IfOk result (λ v. All (λ e. e.tokens < table.new.rows) v.items) }
+    ensures covers { IfOk result (λ v. (i : Item) (t : ℕ) → InClosure grammar.now tokens.now kernel.now i t
+        → IsListed table.new v.items i t) }
 {
-    let nonterminals = grammar.nonterminals.len();
-    let mut spread = Spread {
-        table: BitTable::new(
-            alloc,
-            nonterminals + kernel.len(),
-            grammar.terminals.len() + 1,
-        )?,
-        met: vec![in alloc; false; nonterminals]?,
-    };
-    let mut entries = load(alloc, &mut spread.table, tokens, kernel)?;
-    while spread.round(grammar, first, entries.as_slice()) {}
-    list_rules(grammar, spread.met.as_slice(), &mut entries)?;
-    Ok(Closure {
-        table: spread.table,
-        entries,
-    })
+    let starts = behind_dots(alloc, grammar, kernel)?;
+    let reached = reachable(alloc, grammar, alternatives, starts.as_slice())?;
+    let rows = grammar.nonterminals.len() + kernel.len();
+    let columns = grammar.terminals.len() + 1;
+    if table.rows < rows || table.columns != columns {
+        *table = BitTable::new(alloc, rows, columns)?;
+    } else {
+        clear(table, reached.as_slice(), kernel.len());
+    }
+    let mut entries = load(alloc, table, tokens, kernel)?;
+    while round(
+        table,
+        grammar,
+        first,
+        alternatives,
+        reached.as_slice(),
+        entries.as_slice(),
+    ) {}
+    list_rules(alternatives, reached.as_slice(), &mut entries)?;
+    Ok(entries)
 }

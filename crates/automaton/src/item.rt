@@ -5,7 +5,7 @@ ghost use Rattle.automaton.specs.Items.{rest_of};
 use grammar::{Grammar, Symbol};
 
 /// A production, and how many of its symbols are passed.
-#[derive(Clone, Copy, Debug, PartialEq, Eq)]
+#[derive(Clone, Copy, Debug, PartialEq, Eq, PartialOrd, Ord, Hash)]
 pub struct Item {
     pub production: usize,
     pub dot: usize,

@@ -1,9 +1,13 @@
-ghost use Rattle.std.specs.Prelude.{◌≡◌, ℕ, ◌+◌, ◌<◌, ◌≤◌, All, IsTrue, IfOk, vec_len};
+ghost use Rattle.std.specs.Prelude.{◌≡◌, ℕ, ◌+◌, ◌<◌, ◌≤◌, All, IsTrue, IfOk, IfSome, OnOk, length, vec_len};
 ghost use Rattle.bit_table.specs.Table.{Has};
-ghost use Rattle.automaton.specs.States.{IsListed, HasEachItem, EachMoves, MovesEntry, Starts};
-ghost use Rattle.automaton.specs.Listing.{IsFirstOf};
+ghost use Rattle.automaton.specs.Alternatives.{AreAlternatives};
+ghost use Rattle.automaton.specs.Clashes.{KeepsClashes, ListsState};
+ghost use Rattle.automaton.specs.Conflicts.{conflicts_in, MissesNone};
+ghost use Rattle.automaton.specs.Spreading.{IsFirstOf};
+ghost use Rattle.automaton.specs.States.{IsListed, EachMoves, MovesEntry, Starts};
 
-use crate::{Automaton, Entry, Item, close, rest, target};
+use crate::clashes::list_clashes;
+use crate::{Alternatives, Automaton, Clash, Entry, Item, close, rest, target};
 use bit_table::BitTable;
 use first_sets::FirstSets;
 use grammar::Grammar;
@@ -80,34 +84,6 @@ fn all_move(
     true
 }
 
-// Whether the state leads on from each of its items.
-fn each_moves(
-    alloc: Global,
-    grammar: &Grammar,
-    first: &FirstSets,
-    automaton: &Automaton,
-    state: usize,
-) -> Result<bool, AllocError>
-    requires first { IsFirstOf grammar.now first.now }
-    requires columns { automaton.now.tokens.columns ≡ vec_len grammar.now.terminals + 1 }
-    ensures { IfOk result (λ yes. IsTrue yes → EachMoves grammar.now automaton.now state) }
-{
-    let closure = close(
-        alloc,
-        grammar,
-        first,
-        &automaton.tokens,
-        automaton.kernel(state),
-    )?;
-    Ok(all_move(
-        grammar,
-        automaton,
-        state,
-        &closure.table,
-        closure.entries.as_slice(),
-    ))
-}
-
 // Whether state 0 has the start production before the end of the input.
 fn starts(grammar: &Grammar, automaton: &Automaton) -> bool
     requires { automaton.now.tokens.columns ≡ vec_len grammar.now.terminals + 1 }
@@ -130,27 +106,84 @@ fn starts(grammar: &Grammar, automaton: &Automaton) -> bool
     false
 }
 
-/// Whether an automaton from anywhere is good: then each item that is valid for some symbols is in the state that they lead to.
-pub fn validate(
+// Whether a state leads on from each of its items; its clashes are listed.
+fn visit(
     alloc: Global,
     grammar: &Grammar,
     first: &FirstSets,
+    alternatives: &Alternatives,
     automaton: &Automaton,
+    state: usize,
+    table: &mut BitTable,
+    clashes: &mut Vec<Clash>,
 ) -> Result<bool, AllocError>
-    requires { IsFirstOf grammar.now first.now }
-    ensures columns { IfOk result (λ yes. IsTrue yes → automaton.now.tokens.columns ≡ vec_len grammar.now.terminals + 1) }
-    ensures each { IfOk result (λ yes. IsTrue yes → HasEachItem grammar.now automaton.now) }
+    requires first { IsFirstOf grammar.now first.now }
+    requires alternatives { AreAlternatives grammar.now alternatives.now }
+    requires columns { automaton.now.tokens.columns ≡ vec_len grammar.now.terminals + 1 }
+    ensures moves { IfOk result (λ good. IsTrue good → EachMoves grammar.now automaton.now state) }
+    ensures keeps { OnOk result (KeepsClashes clashes.old.items clashes.new.items) }
+    ensures lists { IfOk result (λ good. IsTrue good → ListsState grammar.now automaton.now clashes.new.items state) }
+{
+    let entries = close(
+        alloc,
+        grammar,
+        first,
+        alternatives,
+        &automaton.tokens,
+        automaton.kernel(state),
+        table,
+    )?;
+    if !all_move(grammar, automaton, state, table, entries.as_slice()) {
+        return Ok(false);
+    }
+    let good = list_clashes(
+        alloc,
+        grammar,
+        automaton,
+        state,
+        table,
+        entries.as_slice(),
+        clashes,
+    )?;
+    Ok(good)
+}
+
+/// The clashes of an automaton from anywhere: no conflict of the grammar is missing among their conflicts. `None` where
+/// the automaton is not the grammar's.
+pub fn validated_clashes(
+    alloc: Global,
+    grammar: &Grammar,
+    first: &FirstSets,
+    alternatives: &Alternatives,
+    automaton: &Automaton,
+) -> Result<Option<Vec<Clash>>, AllocError>
+    requires first { IsFirstOf grammar.now first.now }
+    requires alternatives { AreAlternatives grammar.now alternatives.now }
+    ensures nothing_missed { IfOk result (λ found. IfSome found (λ clashes.
+        MissesNone grammar.now automaton.now (conflicts_in clashes.items))) }
 {
     if automaton.tokens.columns != grammar.terminals.len() + 1 {
-        return Ok(false);
+        return Ok(None);
     }
     if !starts(grammar, automaton) {
-        return Ok(false);
+        return Ok(None);
     }
+    let mut table = BitTable::new(alloc, 0, 0)?;
+    let mut clashes = Vec::new(alloc);
     for state in 0..automaton.states.len() {
-        if !each_moves(alloc, grammar, first, automaton, state)? {
-            return Ok(false);
+        let good = visit(
+            alloc,
+            grammar,
+            first,
+            alternatives,
+            automaton,
+            state,
+            &mut table,
+            &mut clashes,
+        )?;
+        if !good {
+            return Ok(None);
         }
     }
-    Ok(true)
+    Ok(Some(clashes))
 }

@@ -2,7 +2,7 @@ ghost use Rattle.std.specs.Prelude.{◌≡◌, ◌≢◌, ℕ, ◌+◌, ◌*◌,
 ghost use Rattle.std.specs.Bool.{OnTrue, OnFalse};
 ghost use Rattle.bit_table.specs.Bits.{room};
 
-use crate::words::{are_zero, has_all, or_from, or_range, or_word};
+use crate::words::{are_zero, clear, has_all, or_from, or_range, or_word};
 use std::alloc::{AllocError, Global};
 
 /// A table of bits.
@@ -134,5 +134,16 @@ impl BitTable {
         ensures { IsTrue result → (c : ℕ) → ¬ (Has self.now row c) }
     {
         are_zero(self.words.as_slice(), row * self.width, self.width)
+    }
+
+    /// Takes all bits of a row away.
+    pub fn clear_row(&mut self, row: usize)
+        requires { row < self.old.rows }
+        ensures shape { SameShape self.old self.new }
+        ensures empty { (c : ℕ) → ¬ (Has self.new row c) }
+        ensures only { KeepsBits self.new self.old }
+    {
+        let width = self.width;
+        clear(&mut self.words, row * width, width);
     }
 }

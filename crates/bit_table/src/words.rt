@@ -90,3 +90,14 @@ pub fn are_zero(words: &[u64], at: usize, width: usize) -> bool
     }
     true
 }
+
+/// Takes all bits of the words from `at` on away.
+pub fn clear(words: &mut [u64], at: usize, width: usize)
+    requires { at + width ≤ length words.old }
+    ensures zero { (k : ℕ) → k < width → slice_index words.new (at + k) ≡ 0 }
+    ensures only { Keeps words.new words.old }
+{
+    for k in 0..width {
+        words[at + k] = 0;
+    }
+}

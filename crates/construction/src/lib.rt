@@ -1,8 +1,11 @@
-//! Makers of LR automata. Nothing is proved of what they make but that they are safe and end: `automaton::validate` judges it.
+//! LR automata of grammars, and the conflicts of a grammar by them. Of what the makers make nothing is proved but that
+//! they are safe and end: the validator of `automaton` judges it.
 #![tactic(auto)]
 
-mod knuth;
-mod lookaheads;
+mod analysis;
+mod canonical;
+mod lalr;
+mod lr0;
+mod symbols;
 
-pub use knuth::canonical;
-pub use lookaheads::lalr;
+pub use analysis::{Analysis, Failure, Kind, conflicts_of_grammar};

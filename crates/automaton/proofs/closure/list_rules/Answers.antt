@@ -1,34 +1,28 @@
-use Rattle.std.proofs.Common.{◌<◌, arith}
-use Rattle.std.proofs.lemmas.List.Elements.{All-push, Contains-append_left}
+use Rattle.std.proofs.Common.{ℕ, ◌<◌, ◌≤◌, inl, inr, arith, length}
+use Rattle.std.specs.Prelude.{Contains}
+use Rattle.std.proofs.lemmas.List.{take_all}
+use Rattle.std.proofs.lemmas.List.Elements.{All-get_or}
 use Rattle.automaton.specs.declared.automaton.Entry.{Entry}
-use Rattle.automaton.proofs.Spreads.{left_at, left_fits}
-use Rattle.automaton.proofs.Covers.{rules_more, rules_skip}
+use Rattle.automaton.specs.Alternatives.{alternatives_of}
+use Rattle.automaton.specs.Items.{fresh}
+use Rattle.automaton.proofs.Listed.{contains_cases}
 use Rattle.automaton.proofs.closure.list_rules.Goals as goal
-use Rattle.automaton.proofs.closure.list_rules.Goals.{then-wanted+in_ok-push, else-wanted}
 
-pub loop-q-preserved : goal.loop-q-preserved
-loop-q-preserved c =
-    let i = c.loop-q.q in
-    let inv = c.loop-q.invariant in
-    let g = c.args.grammar.now in
-    let p = c.production-item.result in
-    let met = c.args.met.now in
-    let entries = c.loop-q.entries.items in
-    let left = left_at g i p (omega arith) (rw c.deref-production-items.ensures.value at c.production-item.is) in
-    let fits = left_fits g i p (omega arith) (rw c.deref-production-items.ensures.value at c.production-item.is) in
-    elim c.if-wanted.branch [
-      | then-wanted+in_ok-push w ↦
-          rw (w.entries-is, w.in_ok-push.ensures.items)
-          (record {
-            keeps = λ e h. Contains-append_left entries _ e (inv.keeps e h);
-            adds = rules_more g met entries i p.left left inv.adds;
-            in_range = λ rows enough all. All-push (λ (e : Entry). e.tokens < rows) entries _ (inv.in_range rows enough all) (omega (arith, fits));
-          })
-      | else-wanted w ↦
-          rw w.entries-is
-          (record {
-            keeps = inv.keeps;
-            adds = rules_skip g met entries i p.left left w.if-wanted.false inv.adds;
-            in_range = inv.in_range;
-          })
-    ]
+pub loop-n-preserved : goal.loop-n-preserved
+loop-n-preserved c =
+    let inv = c.loop-n.invariant in
+    let i = c.loop-n.n-index in
+    let ns = c.args.reached.now in
+    let s = c.args.alternatives.now in
+    let added = c.in_ok-list_alternatives.ensures in
+    record {
+      keeps = λ e h. added.keeps e (inv.keeps e h);
+      adds = λ n q met rule. elim (contains_cases ns i 0 n (omega arith) met) [
+        | inl k ↦ added.keeps _ (inv.adds n q k rule)
+        | inr e ↦ rw (← e) (added.adds q (rw c.of.ensures (rw e rule)))
+      ];
+      in_range = λ rows enough all. added.in_range rows (All-get_or (λ n. n < rows) ns i 0 (omega arith) enough) (inv.in_range rows enough all);
+    }
+
+pub returns-clause-adds : goal.returns-clause-adds
+returns-clause-adds c = let enough : length c.args.reached.now ≤ c.loop-n.n-index = omega arith in rw take_all at c.loop-n.invariant.adds

@@ -1,9 +1,11 @@
-use Rattle.std.proofs.Common.{◌∙◌, refl}
+use Rattle.std.proofs.Common.{◌∙◌}
 use Rattle.propagation.proofs.Passed.{started, exact_of}
 use Rattle.propagation.proofs.passing.propagate.Goals as goal
 
 pub loop-init : goal.loop-init
-loop-init c = record { shape = record { rows = refl; columns = refl }; keeps = λ a b h. h; sound = started c.args.table.now c.args.edges.now }
+loop-init c =
+    let s = c.spread.ensures in
+    record { shape = s.shape; keeps = s.keeps; sound = s.sound c.args.table.now (started c.args.table.now c.args.edges.now) }
 
 pub loop-preserved : goal.loop-preserved
 loop-preserved c =
