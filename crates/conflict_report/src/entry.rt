@@ -1,4 +1,5 @@
 ghost use Rattle.std.specs.Prelude.{◌≡◌, ◌↔◌, ℕ, Contains, IfOk, map};
+ghost use Rattle.automaton.specs.Alternatives.{AreAlternatives};
 ghost use Rattle.conflict_report.specs.Entries.{AreTokensOf, AreStatesOf, IsWholeEntry};
 
 use crate::decision::{Decision, Decisions};
@@ -119,7 +120,9 @@ fn shifting_of(
     findings: &Findings,
     alternatives: &Alternatives,
     spots: &[Spot],
-) -> Result<Vec<Shifting>, AllocError> {
+) -> Result<Vec<Shifting>, AllocError>
+    requires { AreAlternatives findings.now.grammar.now alternatives.now }
+{
     let grammar = findings.grammar;
     let mut found = Vec::new(alloc);
     for spot in spots {
@@ -172,6 +175,7 @@ pub struct Sources<'a> {
 
 /// What is said of a group.
 pub fn entry_of(alloc: Global, sources: &Sources, group: Group) -> Result<Entry, AllocError>
+    requires { AreAlternatives sources.now.findings.now.grammar.now sources.now.alternatives }
     ensures group { IfOk result (λ entry. entry.group ≡ group) }
     ensures whole { IfOk result IsWholeEntry }
 {

@@ -1,4 +1,5 @@
 ghost use Rattle.std.specs.Prelude.{◌≡◌, ◌+◌, ◌≤◌, All, IfOk, Contains, vec_len, map, filter};
+ghost use Rattle.automaton.specs.Alternatives.{AreAlternatives};
 ghost use Rattle.conflict_report.specs.Groups.{AreGroupsOf, is_left, is_kept, open_of, settled_of};
 ghost use Rattle.conflict_report.specs.Entries.{IsWholeEntry, Shows};
 
@@ -151,6 +152,7 @@ fn entries_of(
     sources: &Sources,
     groups: Vec<Group>,
 ) -> Result<Vec<Entry>, AllocError>
+    requires { AreAlternatives sources.now.findings.now.grammar.now sources.now.alternatives }
     ensures groups { IfOk result (λ v. map (λ e. e.group) v.items ≡ groups.items) }
     ensures whole { IfOk result (λ v. All IsWholeEntry v.items) }
 {
@@ -168,6 +170,7 @@ fn told(
     conflicts: &[Resolved],
     detail: Detail,
 ) -> Result<Vec<Entry>, AllocError>
+    requires { AreAlternatives sources.now.findings.now.grammar.now sources.now.alternatives }
     ensures shows { IfOk result (λ v. Shows conflicts.now v.items) }
     ensures whole { IfOk result (λ v. All IsWholeEntry v.items) }
 {

@@ -1,5 +1,5 @@
 use crate::expectation::{expected_by, status_by};
-use crate::finding::{MOST_STATES, find};
+use crate::finding::{Found, MOST_STATES, find};
 use crate::lines::{push_check, push_report};
 use crate::{Format, Mode, Options, Status, Table, VERSION};
 use conflict_report::{Report, Subject};
@@ -101,12 +101,11 @@ fn push_json(
         expected,
         shows_settled: options.shows_settled,
     };
-    let value = match options.mode {
+    let line = match options.mode {
         Mode::Explain => json_of(alloc, subject, &facts, report)?,
         Mode::Check => summary_of(alloc, subject, &facts, report)?,
     };
-    let text = value.to_string(alloc)?;
-    out.push_str(text.as_str())?;
+    out.push_str(line.as_str())?;
     out.push('\n')
 }
 
@@ -127,7 +126,10 @@ fn tell(
         options.detail,
     );
     let mut report = match found {
-        Ok(report) => report,
+        Ok(Found {
+            analysis: _,
+            report,
+        }) => report,
         Err(failure) => {
             outcome.status = Status::Limited;
             return push_failure(&mut outcome.errors, name, &failure);

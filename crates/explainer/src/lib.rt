@@ -11,7 +11,8 @@ mod running;
 mod status;
 
 pub use explain::{Outcome, explain};
-pub use expectation::expected_by;
+pub use expectation::{expected_by, status_by};
+pub use finding::{Found, find};
 pub use options::{Expectation, Format, Mode, Options, Table};
 pub use running::run;
 pub use status::Status;

@@ -50,8 +50,8 @@ fn summary(alloc: Global, facts: &Facts, report: &Report) -> Result<Value, Alloc
     })
 }
 
-/// The object of one file with no more than its summary.
-pub fn summary_of(
+// The object of one file with no more than its summary.
+fn summary_object(
     alloc: Global,
     subject: &Subject,
     facts: &Facts,
@@ -61,18 +61,30 @@ pub fn summary_of(
     json!(in alloc; {"file": subject.file, "summary": summary})
 }
 
-/// The object of one file.
-pub fn json_of(
+fn conflicts(alloc: Global, subject: &Subject, report: &Report) -> Result<Value, AllocError> {
+    let mut conflicts = Vec::new(alloc);
+    for entry in &report.entries {
+        conflicts.push(json_of_conflict(alloc, subject, entry)?)?;
+    }
+    Ok(Value::Array(conflicts))
+}
+
+fn settled(alloc: Global, subject: &Subject, report: &Report) -> Result<Value, AllocError> {
+    let mut settled = Vec::new(alloc);
+    for entry in &report.settled {
+        settled.push(json_of_settled(alloc, subject, entry)?)?;
+    }
+    Ok(Value::Array(settled))
+}
+
+// The object of one file.
+fn object(
     alloc: Global,
     subject: &Subject,
     facts: &Facts,
     report: &Report,
 ) -> Result<Value, AllocError> {
-    let mut conflicts = Vec::new(alloc);
-    for entry in &report.entries {
-        conflicts.push(json_of_conflict(alloc, subject, entry)?)?;
-    }
-    let conflicts = Value::Array(conflicts);
+    let conflicts = conflicts(alloc, subject, report)?;
     let summary = summary(alloc, facts, report)?;
     if !facts.shows_settled {
         return json!(in alloc; {
@@ -81,15 +93,31 @@ pub fn json_of(
             "conflicts": conflicts
         });
     }
-    let mut settled = Vec::new(alloc);
-    for entry in &report.settled {
-        settled.push(json_of_settled(alloc, subject, entry)?)?;
-    }
-    let settled = Value::Array(settled);
+    let settled = settled(alloc, subject, report)?;
     json!(in alloc; {
         "file": subject.file,
         "summary": summary,
         "conflicts": conflicts,
         "settled": settled
     })
+}
+
+/// The object of one file, on one line without its end.
+pub fn json_of(
+    alloc: Global,
+    subject: &Subject,
+    facts: &Facts,
+    report: &Report,
+) -> Result<String, AllocError> {
+    object(alloc, subject, facts, report)?.to_string(alloc)
+}
+
+/// The object of one file with no more than its summary.
+pub fn summary_of(
+    alloc: Global,
+    subject: &Subject,
+    facts: &Facts,
+    report: &Report,
+) -> Result<String, AllocError> {
+    summary_object(alloc, subject, facts, report)?.to_string(alloc)
 }
