@@ -131,28 +131,71 @@ fn left_name<'a>(grammar: &'a Grammar, production: &Production) -> &'a str {
     }
 }
 
-// Names the alternatives that a rule has twice.
-fn check_duplicates(
+// An alternative that a rule has more than once: the first two productions, and how many there are.
+#[derive(Clone, Copy)]
+struct Repeat {
+    first: usize,
+    second: Option<usize>,
+    count: usize,
+}
+
+// Of each alternative its productions, in the order of the first.
+fn repeats(alloc: Global, grammar: &Grammar) -> Result<Vec<Repeat>, AllocError> {
+    let mut seen: HashMap<Vec<Symbol>, usize> = HashMap::new(alloc);
+    let mut repeats: Vec<Repeat> = Vec::new(alloc);
+    for (index, production) in grammar.productions.iter().enumerate() {
+        let key = key_of(alloc, production)?;
+        match seen.get(key.as_slice()).copied() {
+            Some(place) if place < repeats.len() => {
+                let repeat = &mut repeats[place];
+                repeat.count = repeat.count.saturating_add(1);
+                repeat.second = repeat.second.or(Some(index));
+            }
+            _ => {
+                let _ = seen.insert(key, repeats.len())?;
+                repeats.push(Repeat {
+                    first: index,
+                    second: None,
+                    count: 1,
+                })?;
+            }
+        }
+    }
+    Ok(repeats)
+}
+
+// Says that a rule has an alternative more than once.
+fn say_repeat(
+    alloc: Global,
+    grammar: &Grammar,
+    repeat: Repeat,
+    reports: &mut Reports,
+) -> Result<(), AllocError> {
+    let Some(second) = repeat.second.and_then(|index| grammar.productions.get(index)) else {
+        return Ok(());
+    };
+    let Some(first) = grammar.productions.get(repeat.first) else {
+        return Ok(());
+    };
+    let name = left_name(grammar, second);
+    let count = repeat.count;
+    let message = if count == 2 {
+        format!(in alloc; "`{name}` has this alternative twice")?
+    } else {
+        format!(in alloc; "`{name}` has this alternative {count} times")?
+    };
+    let other = String::from_str(alloc, "the first is here")?;
+    reports.push(Diagnostic::warning(second.span, message).with_note(first.span, other))
+}
+
+// Names the alternatives that a rule has more than once, each once.
+fn check_repeats(
     alloc: Global,
     grammar: &Grammar,
     reports: &mut Reports,
 ) -> Result<(), AllocError> {
-    let mut seen: HashMap<Vec<Symbol>, usize> = HashMap::new(alloc);
-    for (index, production) in grammar.productions.iter().enumerate() {
-        let key = key_of(alloc, production)?;
-        let first = seen.get(key.as_slice()).copied();
-        match first.and_then(|first| grammar.productions.get(first)) {
-            Some(first) => {
-                let name = left_name(grammar, production);
-                let message = format!(in alloc; "`{name}` has this alternative twice")?;
-                let other = String::from_str(alloc, "the first is here")?;
-                let diagnostic = Diagnostic::warning(production.span, message);
-                reports.push(diagnostic.with_note(first.span, other))?;
-            }
-            None => {
-                let _ = seen.insert(key, index)?;
-            }
-        }
+    for repeat in &repeats(alloc, grammar)? {
+        say_repeat(alloc, grammar, *repeat, reports)?;
     }
     Ok(())
 }
@@ -183,7 +226,7 @@ pub fn check(
 ) -> Result<(), AllocError> {
     check_productive(alloc, file, table, reports)?;
     check_reachable(alloc, file, table, reports)?;
-    check_duplicates(alloc, &table.grammar, reports)?;
+    check_repeats(alloc, &table.grammar, reports)?;
     check_used(alloc, file, table, reports)?;
     check_typed(alloc, file, table, reports)
 }

@@ -2,6 +2,7 @@
 
 ghost use Rattle.std.specs.Prelude.{◌≡◌, ◌<◌, All, IfOk, vec_len};
 
+use crate::reach::set;
 use crate::table::Table;
 use diagnostics::{Diagnostic, Reports};
 use grammar::{Level, Symbol};
@@ -18,6 +19,8 @@ pub struct Definer {
     /// Where each name, by its number, is declared, and where it is given a precedence.
     pub defined: Vec<Option<Span>>,
     pub leveled: Vec<Option<Span>>,
+    /// The names of which it was said that they are declared more than once.
+    pub repeated: Vec<bool>,
     /// How many actions stand among symbols.
     pub actions: usize,
     ghost no_productions: { vec_len table.grammar.productions ≡ 0 },
@@ -61,6 +64,7 @@ impl Definer {
             reports: Reports::new(alloc),
             defined: no_spans(alloc, names)?,
             leveled: no_spans(alloc, names)?,
+            repeated: vec![in alloc; false; names]?,
             actions: 0,
         })
     }
@@ -155,8 +159,11 @@ impl Definer {
         if let (Some(Symbol::Terminal(_)), Some(span)) = (self.table.entry(name.id), first)
             && span != name.span
         {
+            if !set(self.repeated.as_mut_slice(), name.id) {
+                return Ok(());
+            }
             let text = file.text(name);
-            let message = format!(in self.alloc; "the token `{text}` is declared twice")?;
+            let message = format!(in self.alloc; "the token `{text}` is declared more than once")?;
             return self.say(Diagnostic::warning(name.span, message), first, "the first is here");
         }
         self.declare(file, name)
@@ -213,7 +220,7 @@ impl Definer {
         let first = span_at(self.leveled.as_slice(), name.id);
         if first.is_some() {
             let text = file.text(name);
-            let message = format!(in self.alloc; "`{text}` is given a precedence twice")?;
+            let message = format!(in self.alloc; "`{text}` is given a precedence more than once")?;
             return self.say(Diagnostic::error(name.span, message), first, "the first is here");
         }
         note_place(self.leveled.as_mut_slice(), name);

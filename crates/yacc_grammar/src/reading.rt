@@ -49,10 +49,7 @@ pub fn read_grammar(
         unknown_start,
     } = grammar_of(alloc, &file, start)?;
     let diagnostics = in_order(diagnostics, others)?;
-    let grammar = match table {
-        Some(table) if !has_error(diagnostics.as_slice()) => Some(into_grammar(table)),
-        _ => None,
-    };
+    let grammar = grammar_in(table, has_error(diagnostics.as_slice()));
     Ok(Reading {
         grammar,
         diagnostics,
@@ -60,11 +57,15 @@ pub fn read_grammar(
     })
 }
 
-fn into_grammar(table: Table) -> Grammar {
+// The grammar of a table, unless the text has errors.
+fn grammar_in(table: Option<Table>, has_errors: bool) -> Option<Grammar> {
+    let Some(table) = table else {
+        return None;
+    };
     let Table {
         grammar,
         symbols: _,
         start: _,
     } = table;
-    grammar
+    if has_errors { None } else { Some(grammar) }
 }

@@ -122,6 +122,7 @@ pub fn grammar_of(
         mut reports,
         defined: _,
         leveled: _,
+        repeated: _,
         actions: _,
     } = definer;
     let mut unknown_start = None;

@@ -114,8 +114,8 @@ impl Definer {
         ensures declared { IsNone chosen.entry → IfOk result (IsFoundAs (start_of file.now)) }
     {
         let declared = file.starts.first().copied();
-        for name in file.starts.iter().skip(1) {
-            let message = String::from_str(self.alloc, "the start is given twice")?;
+        if let Some(name) = file.starts.get(1) {
+            let message = String::from_str(self.alloc, "the start is given more than once")?;
             let first = declared.map(|first| first.span);
             self.say(Diagnostic::error(name.span, message), first, "the first is here")?;
         }
