@@ -1,4 +1,5 @@
-ghost use Rattle.std.specs.Prelude.{All, IsTrue};
+ghost use Rattle.std.specs.Prelude.{All, IsTrue, vec_len};
+ghost use Rattle.grammar.specs.Symbols.{SymbolFits};
 ghost use Rattle.automaton.specs.Alternatives.{AreAlternatives};
 ghost use Rattle.automaton.specs.Spreading.{IsFirstOf};
 ghost use Rattle.propagation.specs.Edges.{EdgeFits};
@@ -76,8 +77,36 @@ fn kernel_row(states: &States, rows: &Rows, state: usize, item: Item) -> Option<
     Some(row.saturating_add(place))
 }
 
-// What an item of the state in hand passes on: its tokens to the item with the dot moved, and to the nonterminal behind
-// its dot what begins behind that.
+// What an item with these symbols behind its dot passes on to the nonterminal that they begin with: what begins behind
+// that, and its own tokens where all that may be empty.
+fn connect_behind(
+    first: &FirstSets,
+    hand: &Hand,
+    row: usize,
+    symbols: &[Symbol],
+    table: &mut BitTable,
+    edges: &mut Vec<Edge>,
+) -> Result<(), AllocError>
+    requires { All (SymbolFits first.now.sets.columns (vec_len first.now.nullable)) symbols.now }
+{
+    let Some((symbol, behind)) = symbols.split_first() else {
+        return Ok(());
+    };
+    let Symbol::Nonterminal(n) = *symbol else {
+        return Ok(());
+    };
+    let to = hand.rows.get(n).copied().unwrap_or(0);
+    if to < table.rows && first.sets.columns <= table.columns {
+        let _ = add_first(table, first, to, behind);
+    }
+    if may_all_be_empty(first, behind) {
+        edges.push(Edge { from: row, to })?;
+    }
+    Ok(())
+}
+
+// What an item of the state in hand passes on: its tokens to the item with the dot moved, and tokens to the nonterminal
+// behind its dot.
 fn connect(
     grammar: &Grammar,
     first: &FirstSets,
@@ -91,10 +120,12 @@ fn connect(
 ) -> Result<(), AllocError>
     requires { IsFirstOf grammar.now first.now }
 {
-    let Some((symbol, behind)) = rest(grammar, item).split_first() else {
+    let symbols = rest(grammar, item);
+    let Some(symbol) = symbols.first() else {
         return Ok(());
     };
-    let target = hand.targets.get(place_of(grammar, *symbol)).copied().unwrap_or(0);
+    let place = place_of(grammar, *symbol);
+    let target = hand.targets.get(place).copied().unwrap_or(0);
     let moved = Item {
         production: item.production,
         dot: item.dot.saturating_add(1),
@@ -102,16 +133,7 @@ fn connect(
     if let Some(to) = kernel_row(states, rows, target, moved) {
         edges.push(Edge { from: row, to })?;
     }
-    if let Symbol::Nonterminal(n) = *symbol {
-        let to = hand.rows.get(n).copied().unwrap_or(0);
-        if to < table.rows && first.sets.columns <= table.columns {
-            let _ = add_first(table, first, to, behind);
-        }
-        if may_all_be_empty(first, behind) {
-            edges.push(Edge { from: row, to })?;
-        }
-    }
-    Ok(())
+    connect_behind(first, hand, row, symbols, table, edges)
 }
 
 fn connect_kernel(
