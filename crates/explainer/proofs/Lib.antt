@@ -1,2 +1,2 @@
 pub mod Members
-pub mod Telling
+pub mod AllTold

@@ -2,15 +2,15 @@
 //! them.
 #![tactic(auto)]
 
-mod explain;
 mod expectation;
 mod finding;
 mod lines;
 mod options;
 mod running;
 mod status;
+mod telling;
 
-pub use explain::{Outcome, explain};
+pub use telling::{Outcome, explain};
 pub use expectation::{expected_by, status_by};
 pub use finding::{Found, find};
 pub use options::{Expectation, Format, Mode, Options, Table};

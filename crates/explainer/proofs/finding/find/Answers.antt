@@ -1,4 +1,4 @@
-use Rattle.explainer.proofs.Telling.{tells_all}
+use Rattle.explainer.proofs.AllTold.{tells_all}
 use Rattle.explainer.proofs.finding.find.Goals as goal
 
 pub returns-clause-tells_all : goal.returns-clause-tells_all
