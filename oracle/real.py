@@ -1,0 +1,479 @@
+#!/usr/bin/env python3
+"""Compares the command `lihvemur` with bison on real grammars.
+
+For each FOLDER/NAME.y (oracle/real.sh fetches them) the counts of `lihvemur --format json`, as the file is and
+with --no-precedence, are held against bison's: shift/reduce and reduce/reduce conflicts, what precedence settled,
+conflicts distinct by rules and token, nonterminals, terminals, productions, LALR states. Bison's counts stand in
+oracle/real.tsv, so that the comparison needs no bison; with --bison bison is asked, and the table is held against
+it too. Without precedence bison gets the file with %left, %right, %nonassoc and %precedence made %token and
+without %prec and %expect (`without_precedence` below, which knows nothing of the command).
+
+Status: 0 all equal, 1 a difference (each is named), 4 usage or something that is not there.
+"""
+
+import argparse
+import collections
+import hashlib
+import json
+import os
+import re
+import shutil
+import subprocess
+import sys
+import tempfile
+import time
+
+HERE = os.path.dirname(os.path.abspath(__file__))
+TABLE = os.path.join(HERE, "real.tsv")
+PROGRAM = os.path.join(HERE, "..", "crates", "lihvemur_command", "out", "lihvemur_command")
+SHAPE = ["nonterminals", "terminals", "productions", "states"]
+CONFLICTS = ["shift_reduce", "reduce_reduce", "settled", "distinct"]
+COLUMNS = ["name", "package", "version", "sha256"] + SHAPE + CONFLICTS + ["bare_" + c for c in CONFLICTS if c != "settled"]
+# bison's own default drops states that precedence made unreachable; the command keeps them, as LALR has them
+FORCED = ["-Flr.type=lalr", "-Flr.keep-unreachable-state=true"]
+ENVIRONMENT = dict(os.environ, LC_ALL="C.UTF-8")
+
+
+class Missing(Exception):
+    """Something that the comparison needs is not there, or does not answer."""
+
+
+# ---- the file without precedence
+
+PIECE = re.compile(
+    rb"""(?P<prologue>%\{.*?%\})
+       | (?P<comment>/\*.*?\*/|//[^\n]*)
+       | (?P<string>"(?:\\.|[^"\\\n])*")
+       | (?P<character>'(?:\\.|[^'\\\n])*')
+       | (?P<mark>%%)
+       | (?P<directive>%[a-zA-Z][a-zA-Z0-9_-]*|%[<>02])
+       | (?P<open>%\?\{|\{)
+       | (?P<tag><(?:[^<>\n]|<[^<>\n]*>)*>)
+       | (?P<number>[0-9]+)
+       | (?P<name>[A-Za-z_.$@\x80-\xff][A-Za-z0-9_.$@\x80-\xff-]*)
+       | (?P<other>.)""",
+    re.S | re.X,
+)
+CODE = re.compile(rb"""/\*.*?\*/|//[^\n]*|"(?:\\.|[^"\\\n])*"|'(?:\\.|[^'\\\n])*'|[{}]|.""", re.S)
+LEVELS = {b"%left", b"%right", b"%nonassoc", b"%precedence", b"%binary", b"%<", b"%>", b"%2"}
+
+
+def end_of_code(text, at):
+    """The index behind the brace that closes the one at `at`."""
+    depth = 0
+    for piece in CODE.finditer(text, at):
+        if piece.group() == b"{":
+            depth += 1
+        elif piece.group() == b"}":
+            depth -= 1
+            if depth == 0:
+                return piece.end()
+    return len(text)
+
+
+def without(text, has_levels):
+    """The same grammar without each %expect; if no levels are wanted, with them made %token and without each %prec."""
+    out = []
+    at = 0
+    marks = 0
+    level = None  # of a level that is made %token: what stands in it, but for strings, which are no names there
+    drop_next = False  # the name behind %prec, the number behind %expect
+
+    def close_level():
+        if level is not None and any(kind in ("name", "character") for kind, _ in level):
+            out.extend(word for _, word in level)
+
+    while at < len(text) and marks < 2:
+        piece = PIECE.match(text, at)
+        kind, word, at = piece.lastgroup, piece.group(), piece.end()
+        if kind == "open":
+            end = end_of_code(text, at - 1)
+            word, at = word + text[at:end], end
+        if kind in ("open", "mark", "directive", "prologue") or (kind == "other" and word in b";:|"):
+            close_level()
+            level = None
+        if kind == "mark":
+            marks += 1
+        if kind == "directive":
+            drop_next = word in (b"%expect", b"%expect-rr") or (word == b"%prec" and not has_levels)
+            if drop_next:
+                word = b" "
+            elif word in LEVELS and not has_levels:
+                level = [("directive", b"%token")]
+                continue
+        elif kind in ("name", "character", "string", "number") and drop_next:
+            word = b" "
+            drop_next = False
+        if level is None:
+            out.append(word)
+        elif kind != "string":
+            level.append((kind, word))
+    close_level()
+    return b"".join(out) + text[at:]
+
+
+def without_precedence(text):
+    return without(text, False)
+
+
+def without_expectations(text):
+    """Bison stops at conflicts that %expect does not expect."""
+    return without(text, True)
+
+
+# ---- bison
+
+
+def run(words, **options):
+    """Runs a program: status, standard output, standard error, seconds, peak kilobytes."""
+    with tempfile.TemporaryFile() as out, tempfile.TemporaryFile() as error:
+        begin = time.monotonic()
+        child = subprocess.Popen(words, stdin=subprocess.DEVNULL, stdout=out, stderr=error, env=ENVIRONMENT, **options)
+        _, status, usage = os.wait4(child.pid, 0)
+        seconds = time.monotonic() - begin
+        child.returncode = os.waitstatus_to_exitcode(status)
+        out.seek(0)
+        error.seek(0)
+        return child.returncode, out.read(), error.read(), seconds, usage.ru_maxrss
+
+
+def bison_counts(text, forced=FORCED):
+    """Bison's counts of one grammar, from its report (see oracle/README.md, the footing)."""
+    with tempfile.TemporaryDirectory() as folder:
+        path = os.path.join(folder, "grammar.y")
+        report = os.path.join(folder, "report")
+        with open(path, "wb") as file:
+            file.write(text)
+        words = ["bison", "-Wnone", *forced, "--report=solved", "--report-file=" + report, "-o", os.path.join(folder, "parser.c"), path]
+        status, _, error, _, _ = run(words)
+        if status != 0:
+            raise Missing("bison refuses it: " + error.decode("utf-8", "replace").split("\n")[0])
+        with open(report, encoding="utf-8", errors="surrogateescape") as file:
+            return read_report(file)
+
+
+RULE = re.compile(r"^ +\d+ ")
+CONFLICT_LINE = re.compile(r"^State \d+ conflicts: (?:(\d+) shift/reduce)?(?:, )?(?:(\d+) reduce/reduce)?")
+ACTION = re.compile(r"^    (\S+|\"(?:\\.|[^\"\\])*\"|'(?:\\.|[^'\\])*') +(?:(shift), and go to state \d+|(\[?)reduce using rule (\d+) \(|(error) )")
+SOLVED = re.compile(r"^    Conflict between rule \d+ and token .* resolved as (shift|reduce|an error) \(")
+
+
+def read_report(lines):
+    counts = collections.Counter({name: 0 for name in SHAPE + CONFLICTS})
+    said = collections.Counter()
+    distinct = set()
+    section = ""
+    actions = {}
+
+    def close_state():
+        for token, (shifts, reductions, blocked) in actions.items():
+            if not blocked:
+                continue
+            if shifts:
+                counts["shift_reduce"] += 1
+                distinct.update((rule, "shift", token) for rule in reductions)
+            if len(reductions) > 1:
+                counts["reduce_reduce"] += len(reductions) - 1
+                distinct.update((p, q, token) for p in reductions for q in reductions if p < q)
+        actions.clear()
+
+    for line in lines:
+        line = line.rstrip("\n")
+        found = CONFLICT_LINE.match(line)
+        if found:
+            said["shift_reduce"] += int(found.group(1) or 0)
+            said["reduce_reduce"] += int(found.group(2) or 0)
+        elif re.match(r"^State \d+$", line):
+            close_state()
+            section = "state"
+            counts["states"] += 1
+        elif line and not line.startswith(" "):
+            section = line
+        elif section == "state":
+            found = ACTION.match(line)
+            if found:
+                token, shift, bracket, rule, _ = found.groups()
+                entry = actions.setdefault(token, [False, [], False])
+                if shift:
+                    entry[0] = True
+                elif rule:
+                    entry[1].append(int(rule))
+                    entry[2] |= bracket == "["
+            elif SOLVED.match(line):
+                counts["settled"] += 1
+        elif section in ("Grammar", "Rules useless in grammar") and RULE.match(line):
+            counts["productions"] += 1
+        elif section.startswith("Terminals, with") and re.match(r"^    \S", line):
+            counts["terminals"] += 1
+        elif (section.startswith("Nonterminals, with") or section.startswith("Nonterminals useless")) and re.match(r"^    \S", line):
+            counts["nonterminals"] += 1
+    close_state()
+    for name in ("shift_reduce", "reduce_reduce"):
+        if counts[name] != said[name]:
+            raise Missing(f"bison's report is read wrongly: {name} by its actions {counts[name]}, by its summary {said[name]}")
+    counts["distinct"] = len(distinct)
+    counts["productions"] -= 1  # `$accept: START $end`
+    counts["nonterminals"] -= 1  # `$accept`
+    return dict(counts)
+
+
+def bison_row(text):
+    """Both counts of bison as one row of the table."""
+    row = {}
+    with_levels = bison_counts(without_expectations(text))
+    bare = bison_counts(without_precedence(text))
+    for name in SHAPE:
+        row[name] = with_levels[name]
+        if bare[name] != with_levels[name]:
+            raise Missing(f"{name} differ without precedence: {bare[name]}, with {with_levels[name]}")
+    if bare["settled"]:
+        raise Missing(f"without precedence {bare['settled']} conflicts are settled")
+    for name in CONFLICTS:
+        row[name] = with_levels[name]
+        if name != "settled":
+            row["bare_" + name] = bare[name]
+    return row
+
+
+# ---- the command
+
+
+def program_summary(program, path, *options):
+    status, out, error, _, _ = run([program, *options, "--format", "json", path])
+    if status not in (0, 1):
+        first = error.decode("utf-8", "replace").strip().split("\n")[0]
+        raise Missing(f"status {status}: {first}")
+    try:
+        answer = json.loads(out)
+    except ValueError as reason:
+        raise Missing(f"no JSON: {reason}")
+    if isinstance(answer, list):
+        answer = answer[0]
+    if "files" in answer:
+        answer = answer["files"][0]
+    return status, answer["summary"]
+
+
+def compare(name, row, program, path):
+    """The differences, as lines."""
+    found = []
+    for title, prefix, options in (("", "", []), (" without precedence", "bare_", ["--no-precedence"])):
+        try:
+            status, summary = program_summary(program, path, *options)
+        except Missing as reason:
+            found.append(f"{name}{title}: {reason}")
+            continue
+        for field in SHAPE + CONFLICTS:
+            if field == "settled" and prefix:
+                expected = 0
+            else:
+                expected = int(row[field if field in SHAPE else prefix + field])
+            if field not in summary:
+                found.append(f"{name}{title}: no field `{field}` in summary")
+            elif summary[field] != expected:
+                found.append(f"{name}{title}: {field}: lihvemur {summary[field]}, bison {expected}")
+    return found
+
+
+# ---- the table
+
+
+def read_table(path):
+    if not os.path.exists(path):
+        return {}
+    with open(path, encoding="utf-8") as file:
+        lines = [line.rstrip("\n").split("\t") for line in file if line.strip() and not line.startswith("#")]
+    return {cells[0]: dict(zip(lines[0], cells)) for cells in lines[1:]}
+
+
+def write_table(path, rows):
+    with open(path, "w", encoding="utf-8") as file:
+        file.write("# Bison's counts of the real grammars that oracle/real.sh fetches; made by oracle/real.py --update.\n")
+        file.write("\t".join(COLUMNS) + "\n")
+        for row in rows:
+            file.write("\t".join(str(row[column]) for column in COLUMNS) + "\n")
+
+
+def sources(folder):
+    path = os.path.join(folder, "sources.tsv")
+    if not os.path.exists(path):
+        raise Missing(f"{path} is not there: run oracle/real.sh --folder {folder} first")
+    with open(path, encoding="utf-8") as file:
+        rows = [line.rstrip("\n").split("\t") for line in file]
+    return [{"name": r[0], "package": r[1], "version": r[2]} for r in rows]
+
+
+def read_file(path):
+    with open(path, "rb") as file:
+        return file.read()
+
+
+# ---- grammars whose verdict is known
+
+VERDICTS = os.path.join(HERE, "..", "tables", "verdicts.tsv")
+
+
+def wrong_verdict(verdict, summary):
+    """What a summary says against the known verdict, or None; it says nothing as long as it has no verdicts."""
+    if "ambiguous" not in summary:
+        return None
+    ambiguous, lalr_only, distinct = summary["ambiguous"], summary.get("lalr_only", 0), summary["distinct"]
+    if verdict == "ambiguous" and ambiguous != distinct:
+        return f"{ambiguous} of {distinct} conflicts are called ambiguous, and all are"
+    if verdict == "LALR alone" and lalr_only != distinct:
+        return f"{lalr_only} of {distinct} conflicts are called of LALR alone, and all are"
+    if verdict == "two inputs" and ambiguous + lalr_only:
+        return f"{ambiguous} conflicts are called ambiguous and {lalr_only} of LALR alone, and none is"
+    return None
+
+
+def compare_verdicts(program, has_bison):
+    """The differences of tables/*.y from tables/verdicts.tsv, as lines, and how many files were looked at."""
+    found = []
+    rows = read_table(VERDICTS)
+    tables = os.path.dirname(VERDICTS)
+    known = {os.path.relpath(os.path.join(where, name), tables) for where, _, names in os.walk(tables) for name in names if name.endswith(".y")}
+    found += [f"tables/{name}: no verdict in tables/verdicts.tsv" for name in sorted(known - set(rows))]
+    for name, row in rows.items():
+        path = os.path.join(tables, name)
+        if has_bison and row["verdict"] != "refused":
+            counts = bison_counts(without_expectations(read_file(path)))
+            found += [f"tables/{name}: {f}: bison {counts[f]}, tables/verdicts.tsv {row[f]}" for f in ("shift_reduce", "reduce_reduce") if str(counts[f]) != row[f]]
+        if program is None:
+            continue
+        try:
+            status, summary = program_summary(program, path)
+        except Missing as reason:
+            if row["verdict"] != "refused" or not str(reason).startswith("status 2"):
+                found.append(f"tables/{name}: {reason}")
+            continue
+        if row["verdict"] == "refused":
+            found.append(f"tables/{name}: it is read, and should be refused")
+            continue
+        found += [f"tables/{name}: {f}: lihvemur {summary.get(f)}, tables/verdicts.tsv {row[f]}" for f in ("shift_reduce", "reduce_reduce") if str(summary.get(f)) != row[f]]
+        wrong = wrong_verdict(row["verdict"], summary)
+        if wrong:
+            found.append(f"tables/{name}: {wrong}")
+    return found, len(rows)
+
+
+# ---- time and memory
+
+
+def best(words, rounds):
+    """Least seconds and least peak megabytes of some runs."""
+    runs = [run(words) for _ in range(rounds)]
+    return min(r[3] for r in runs), min(r[4] for r in runs) / 1024, runs[0][0]
+
+
+def print_times(names, folder, program, rounds):
+    print(f"{'grammar':<18}{'bison s':>9}{'MB':>7}{'lihvemur s':>12}{'MB':>7}{'slower':>9}")
+    slower = []
+    total = [0.0, 0.0]
+    with tempfile.TemporaryDirectory() as work:
+        for name in names:
+            path = os.path.join(folder, name + ".y")
+            seconds, megabytes, _ = best(["bison", "-Wnone", "-o", os.path.join(work, "parser.c"), path], rounds)
+            own, own_megabytes, status = best([program, path], rounds)
+            said = "" if status in (0, 1) else f"  status {status}"
+            mark = ""
+            if own > seconds:
+                slower.append(name)
+                mark = "slower"
+            total[0] += seconds
+            total[1] += own
+            print(f"{name:<18}{seconds:>9.3f}{megabytes:>7.1f}{own:>12.3f}{own_megabytes:>7.1f}{mark:>9}{said}", flush=True)
+    print(f"{'all':<18}{total[0]:>9.3f}{'':>7}{total[1]:>12.3f}")
+    return slower
+
+
+def arguments():
+    default_folder = os.path.join(os.environ.get("XDG_CACHE_HOME") or os.path.expanduser("~/.cache"), "lihvemur-real")
+    parser = argparse.ArgumentParser(description=__doc__, formatter_class=argparse.RawDescriptionHelpFormatter, allow_abbrev=False)
+    parser.add_argument("--folder", default=default_folder, help="where oracle/real.sh put the grammars (default: %(default)s)")
+    parser.add_argument("--program", default=PROGRAM, help="the command's binary (default: crates/lihvemur_command/out/lihvemur_command)")
+    parser.add_argument("--bison", action="store_true", help="ask bison too, and hold the stored table against it")
+    parser.add_argument("--update", action="store_true", help="make oracle/real.tsv anew from bison, compare nothing")
+    parser.add_argument("--times", action="store_true", help="time and peak memory of both, best of --rounds, as a table; compare nothing")
+    parser.add_argument("--rounds", type=int, default=3, help="runs of each for --times (default: 3)")
+    parser.add_argument("--tables", action="store_true", help="look at tables/*.y and tables/command/*.y in place of real grammars: bison's and the command's counts and verdicts against tables/verdicts.tsv (without the command, bison's alone)")
+    parser.add_argument("--strip", metavar="FILE", help="write FILE without precedence to standard output, and end")
+    parser.add_argument("names", nargs="*", metavar="NAME", help="grammars to look at (default: all)")
+    try:
+        return parser.parse_args()
+    except SystemExit as end:
+        sys.exit(4 if end.code else 0)
+
+
+def main():
+    wish = arguments()
+    if wish.strip:
+        sys.stdout.buffer.write(without_precedence(read_file(wish.strip)))
+        return 0
+    has_bison = shutil.which("bison") is not None
+    if wish.tables:
+        program = wish.program if os.access(wish.program, os.X_OK) else None
+        if not program and not has_bison:
+            raise Missing("neither bison nor the command is there")
+        differences, count = compare_verdicts(program, has_bison)
+        for line in differences:
+            print(line)
+        print(f"{count} tables compared with {' and '.join((['bison'] if has_bison else []) + (['lihvemur'] if program else []))}, {len(differences)} differences")
+        return 1 if differences else 0
+    if (wish.update or wish.bison or wish.times) and not has_bison:
+        raise Missing("bison is not there: apt-get install bison")
+    listed = [row for row in sources(wish.folder) if not wish.names or row["name"] in wish.names]
+    unknown = set(wish.names) - {row["name"] for row in listed}
+    if unknown:
+        raise Missing("no such grammar: " + ", ".join(sorted(unknown)))
+    if not wish.update and not os.access(wish.program, os.X_OK):
+        raise Missing(f"{wish.program} is not there: build the command, or name it by --program")
+
+    if wish.times:
+        slower = print_times([row["name"] for row in listed], wish.folder, wish.program, wish.rounds)
+        print(f"{len(listed)} grammars, {len(slower)} slower than bison" + (": " + ", ".join(slower) if slower else ""))
+        return 1 if slower else 0
+
+    table = read_table(TABLE)
+    differences = []
+    compared = 0
+    for row in listed:
+        name = row["name"]
+        path = os.path.join(wish.folder, name + ".y")
+        text = read_file(path)
+        row["sha256"] = hashlib.sha256(text).hexdigest()
+        stored = table.get(name)
+        is_stored = stored is not None and stored["sha256"] == row["sha256"]
+        try:
+            if wish.update or wish.bison or not is_stored:
+                if not is_stored and not wish.update:
+                    print(f"{name}: not the file of oracle/real.tsv, bison is asked", file=sys.stderr)
+                row.update(bison_row(text))
+                if is_stored and not wish.update:
+                    differences += [f"{name}: {c}: bison {row[c]}, oracle/real.tsv {stored[c]}" for c in COLUMNS[4:] if str(row[c]) != stored[c]]
+            else:
+                row = stored
+        except (Missing, FileNotFoundError) as reason:
+            differences.append(f"{name}: {reason}")
+            continue
+        if not wish.update:
+            differences += compare(name, row, wish.program, path)
+            compared += 1
+        table[name] = row
+    for line in differences:
+        print(line)
+    if wish.update:
+        names = [row["name"] for row in sources(wish.folder)]
+        write_table(TABLE, [table[name] for name in names if name in table])
+        print(f"{len(table)} rows in oracle/real.tsv, {len(differences)} problems")
+    else:
+        print(f"{compared} grammars compared, {len(differences)} differences")
+    return 1 if differences else 0
+
+
+if __name__ == "__main__":
+    try:
+        sys.exit(main())
+    except Missing as reason:
+        print(f"real.py: {reason}", file=sys.stderr)
+        sys.exit(4)
