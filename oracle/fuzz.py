@@ -9,6 +9,10 @@ A finding is: an end by a signal; a status outside 0 to 4; more than --seconds f
 output for a file with errors; status 2 without a line `file:line:column: error:`; an error with another status.
 Each finding is kept as KEEP/SEED_INDEX.y, with its arguments, and printed. The last line is `N files, M findings`.
 
+With --bison each file (of the shorter grammars) is given to bison too. Then a finding is: a file that bison reads
+and the command refuses; counts that differ (as in oracle/real.py). Of files that the command alone reads the number
+is said: bison also looks into actions, and at types and values.
+
 Status: 0 no findings, 1 findings, 4 usage or something that is not there.
 """
 
@@ -22,6 +26,8 @@ import subprocess
 import sys
 import tempfile
 import time
+
+import real
 
 HERE = os.path.dirname(os.path.abspath(__file__))
 TOP = os.path.dirname(HERE)
@@ -196,6 +202,43 @@ def is_suspect(status, out, error, names, seconds, limit):
     return any(re.search(rb"(?m)(^|\")" + re.escape(name) + rb"[:\" ]", out) for name in wrong)
 
 
+def against_bison(wish, program, seed, texts):
+    """The mode --bison."""
+    findings = both = neither = alone = passed_over = 0
+    with tempfile.TemporaryDirectory() as folder:
+        for index in range(wish.first, wish.first + wish.count):
+            text = damaged(seed, index, texts, texts)
+            path = os.path.join(folder, f"{index}.y")
+            with open(path, "wb") as file:
+                file.write(text)
+            try:
+                row = real.bison_row(text)
+            except real.Missing as reason:
+                row = None
+                refusal = str(reason)
+            if row is not None and row["is_reduced"]:
+                passed_over += 1
+                continue
+            status, _, error, _ = run(program, ["check"], [path], folder, wish.seconds)
+            if row is None:
+                neither += status == 2
+                alone += status in (0, 1)
+                found = [] if status in (0, 1, 2, 3) else [f"{index}: status {status}, and bison refuses it: {refusal}"]
+            else:
+                both += status in (0, 1)
+                found = real.compare(str(index), row, program, path)
+            for line in found:
+                print(f"finding: {line}", flush=True)
+            if found:
+                findings += 1
+                os.makedirs(wish.keep, exist_ok=True)
+                shutil.copy(path, os.path.join(wish.keep, f"{seed}_{index}.y"))
+            os.unlink(path)
+    print(f"{both} read by both, {neither} by neither, {alone} by the command alone, {passed_over} passed over (bison leaves useless rules out)")
+    print(f"{wish.count} files, {findings} findings")
+    return 1 if findings else 0
+
+
 def arguments():
     parser = argparse.ArgumentParser(description=__doc__, formatter_class=argparse.RawDescriptionHelpFormatter, allow_abbrev=False)
     parser.add_argument("--folder", default=os.path.join(CACHE, "lihvemur-real"), help="where oracle/real.sh put the grammars (default: %(default)s)")
@@ -207,6 +250,7 @@ def arguments():
     parser.add_argument("--alone", type=int, default=20, metavar="N", help="each N-th process is made for one file alone instead, for its exact answer (default: %(default)s)")
     parser.add_argument("--seconds", type=float, default=2.0, help="limit for one file (default: %(default)s)")
     parser.add_argument("--keep", default=os.path.join(CACHE, "lihvemur-findings"), help="where findings are kept (default: %(default)s)")
+    parser.add_argument("--bison", action="store_true", help="compare with bison, file by file")
     parser.add_argument("--show", type=int, metavar="INDEX", help="write this file of --seed to standard output, and end")
     try:
         return parser.parse_args()
@@ -232,6 +276,8 @@ def main():
     print(f"seed {seed}", flush=True)
     findings = 0
     errors = 0
+    if wish.bison:
+        return against_bison(wish, program, seed, [text for text in shorts if len(text) < 60000])
     begin = time.monotonic()
     shared = "/dev/shm" if os.path.isdir("/dev/shm") else None
     with tempfile.TemporaryDirectory(dir=shared) as folder:

@@ -71,16 +71,6 @@ def grammar(seed, index):
     return "\n".join(lines) + "\n"
 
 
-def has_useless(text):
-    """Whether bison says of the grammar that something in it is useless, or refuses it."""
-    with tempfile.TemporaryDirectory() as folder:
-        path = os.path.join(folder, "grammar.y")
-        with open(path, "w", encoding="utf-8") as file:
-            file.write(text)
-        status, _, error, _, _ = real.run(["bison", "-o", os.path.join(folder, "parser.c"), path])
-        return status != 0 or b"useless in grammar" in error
-
-
 def main():
     parser = argparse.ArgumentParser(description=__doc__, formatter_class=argparse.RawDescriptionHelpFormatter, allow_abbrev=False)
     parser.add_argument("--program", default=real.PROGRAM, help="the command's binary (default: crates/lihvemur_command/out/lihvemur_command)")
@@ -108,14 +98,14 @@ def main():
     with tempfile.TemporaryDirectory() as folder:
         for index in range(wish.count):
             text = grammar(seed, index)
-            if has_useless(text):
+            row = real.bison_row(text.encode())
+            if row["is_reduced"]:
                 passed_over += 1
                 continue
             name = f"{seed}_{index}"
             path = os.path.join(folder, name + ".y")
             with open(path, "w", encoding="utf-8") as file:
                 file.write(text)
-            row = real.bison_row(text.encode())
             for field in sums:
                 sums[field] += row[field]
             found = real.compare(name, row, wish.program, path)

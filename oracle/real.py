@@ -164,6 +164,7 @@ def read_report(lines):
     distinct = set()
     section = ""
     actions = {}
+    is_reduced = False  # whether bison left out what is useless
 
     def close_state():
         for token, (shifts, reductions, blocked) in actions.items():
@@ -189,6 +190,7 @@ def read_report(lines):
             counts["states"] += 1
         elif line and not line.startswith(" "):
             section = line
+            is_reduced |= line.endswith("useless in grammar")
         elif section == "state":
             found = ACTION.match(line)
             if found:
@@ -212,6 +214,7 @@ def read_report(lines):
         if counts[name] != said[name]:
             raise Missing(f"bison's report is read wrongly: {name} by its actions {counts[name]}, by its summary {said[name]}")
     counts["distinct"] = len(distinct)
+    counts["is_reduced"] = is_reduced
     counts["productions"] -= 1  # `$accept: START $end`
     counts["nonterminals"] -= 1  # `$accept`
     return dict(counts)
@@ -222,6 +225,7 @@ def bison_row(text):
     row = {}
     with_levels = bison_counts(without_expectations(text))
     bare = bison_counts(without_precedence(text))
+    row["is_reduced"] = with_levels["is_reduced"]
     for name in SHAPE:
         row[name] = with_levels[name]
         # a token that stands behind %prec alone is gone with it
