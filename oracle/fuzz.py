@@ -212,11 +212,11 @@ def against_bison(wish, program, seed, texts):
             with open(path, "wb") as file:
                 file.write(text)
             try:
-                row = real.bison_row(text)
+                row, report, _ = real.bison_row(text)
             except real.Missing as reason:
                 row = None
                 refusal = str(reason)
-            if row is not None and row["is_reduced"]:
+            if row is not None and report.is_reduced:
                 passed_over += 1
                 continue
             status, _, error, _ = run(program, ["check"], [path], folder, wish.seconds)

@@ -98,8 +98,8 @@ def main():
     with tempfile.TemporaryDirectory() as folder:
         for index in range(wish.count):
             text = grammar(seed, index)
-            row = real.bison_row(text.encode())
-            if row["is_reduced"]:
+            row, report, _ = real.bison_row(text.encode())
+            if report.is_reduced:
                 passed_over += 1
                 continue
             name = f"{seed}_{index}"

@@ -137,8 +137,8 @@ def run(words, **options):
         return child.returncode, out.read(), error.read(), seconds, usage.ru_maxrss
 
 
-def bison_counts(text, forced=FORCED):
-    """Bison's counts of one grammar, from its report (see oracle/README.md, the footing)."""
+def bison_report(text, forced=FORCED):
+    """Bison's report of one grammar (see oracle/README.md, the footing of the counts)."""
     with tempfile.TemporaryDirectory() as folder:
         path = os.path.join(folder, "grammar.y")
         report = os.path.join(folder, "report")
@@ -149,95 +149,120 @@ def bison_counts(text, forced=FORCED):
         if status != 0:
             raise Missing("bison refuses it: " + error.decode("utf-8", "replace").split("\n")[0])
         with open(report, encoding="utf-8", errors="surrogateescape") as file:
-            return read_report(file)
+            return Report(file)
 
 
-RULE = re.compile(r"^ +\d+ ")
+RULE = re.compile(r"^ +(\d+) (?:(\S+):|\s*\|)(.*)$")
+SYMBOL = re.compile(r"\"(?:\\.|[^\"\\])*\"|'(?:\\.|[^'\\])+'|\S+")
 CONFLICT_LINE = re.compile(r"^State \d+ conflicts: (?:(\d+) shift/reduce)?(?:, )?(?:(\d+) reduce/reduce)?")
-ACTION = re.compile(r"^    (\S+|\"(?:\\.|[^\"\\])*\"|'(?:\\.|[^'\\])*') +(?:(shift), and go to state \d+|(\[?)reduce using rule (\d+) \(|(error) )")
+ACTION = re.compile(r"^    (\S+|\"(?:\\.|[^\"\\])*\"|'(?:\\.|[^'\\])*') +(?:(shift), and )?(?:go to state (\d+)|(\[?)reduce using rule (\d+) \(|error )")
 SOLVED = re.compile(r"^    Conflict between rule \d+ and token .* resolved as (shift|reduce|an error) \(")
 
 
-def read_report(lines):
-    counts = collections.Counter({name: 0 for name in SHAPE + CONFLICTS})
-    said = collections.Counter()
-    distinct = set()
-    section = ""
-    actions = {}
-    is_reduced = False  # whether bison left out what is useless
+class Clash:
+    """What bison does in one state before one token."""
 
-    def close_state():
-        for token, (shifts, reductions, blocked) in actions.items():
-            if not blocked:
-                continue
-            if shifts:
-                counts["shift_reduce"] += 1
-                distinct.update((rule, "shift", token) for rule in reductions)
-            if len(reductions) > 1:
-                counts["reduce_reduce"] += len(reductions) - 1
-                distinct.update((p, q, token) for p in reductions for q in reductions if p < q)
-        actions.clear()
+    def __init__(self):
+        self.shifts = False
+        self.reductions = []
+        self.is_conflict = False
 
-    for line in lines:
-        line = line.rstrip("\n")
-        found = CONFLICT_LINE.match(line)
-        if found:
-            said["shift_reduce"] += int(found.group(1) or 0)
-            said["reduce_reduce"] += int(found.group(2) or 0)
-        elif re.match(r"^State \d+$", line):
-            close_state()
-            section = "state"
-            counts["states"] += 1
-        elif line and not line.startswith(" "):
-            section = line
-            is_reduced |= line.endswith("useless in grammar")
-        elif section == "state":
-            found = ACTION.match(line)
+
+class Report:
+    """What bison's report says of a grammar."""
+
+    def __init__(self, lines):
+        self.rules = {}  # by number: the left side and the right side
+        self.targets = []  # of each state: where its symbols lead
+        self.clashes = []  # of each state: what is done before its tokens
+        self.is_reduced = False  # whether bison left out what is useless
+        self.counts = collections.Counter({name: 0 for name in SHAPE + CONFLICTS})
+        said = collections.Counter()
+        section = ""
+        left = None
+        for line in lines:
+            line = line.rstrip("\n")
+            found = CONFLICT_LINE.match(line)
             if found:
-                token, shift, bracket, rule, _ = found.groups()
-                entry = actions.setdefault(token, [False, [], False])
-                if shift:
-                    entry[0] = True
-                elif rule:
-                    entry[1].append(int(rule))
-                    entry[2] |= bracket == "["
-            elif SOLVED.match(line):
-                counts["settled"] += 1
-        elif section in ("Grammar", "Rules useless in grammar") and RULE.match(line):
-            counts["productions"] += 1
-        elif section.startswith("Terminals, with") and re.match(r"^    \S", line):
-            counts["terminals"] += 1
-        elif (section.startswith("Nonterminals, with") or section.startswith("Nonterminals useless")) and re.match(r"^    \S", line):
-            counts["nonterminals"] += 1
-    close_state()
-    for name in ("shift_reduce", "reduce_reduce"):
-        if counts[name] != said[name]:
-            raise Missing(f"bison's report is read wrongly: {name} by its actions {counts[name]}, by its summary {said[name]}")
-    counts["distinct"] = len(distinct)
-    counts["is_reduced"] = is_reduced
-    counts["productions"] -= 1  # `$accept: START $end`
-    counts["nonterminals"] -= 1  # `$accept`
-    return dict(counts)
+                said["shift_reduce"] += int(found.group(1) or 0)
+                said["reduce_reduce"] += int(found.group(2) or 0)
+            elif re.match(r"^State \d+$", line):
+                section = "state"
+                self.targets.append({})
+                self.clashes.append(collections.defaultdict(Clash))
+            elif line and not line.startswith(" "):
+                section = line
+                self.is_reduced |= line.endswith("useless in grammar")
+            elif section == "state":
+                self.read_action(line)
+            elif section in ("Grammar", "Rules useless in grammar") and RULE.match(line):
+                number, name, right = RULE.match(line).groups()
+                left = name or left
+                self.counts["productions"] += 1
+                if section == "Grammar":
+                    self.rules[int(number)] = (left, [x for x in SYMBOL.findall(right) if x not in ("ε", "%empty")])
+            elif section.startswith("Terminals, with") and re.match(r"^    \S", line):
+                self.counts["terminals"] += 1
+            elif section.startswith(("Nonterminals, with", "Nonterminals useless")) and re.match(r"^    \S", line):
+                self.counts["nonterminals"] += 1
+        self.count()
+        for name in ("shift_reduce", "reduce_reduce"):
+            if self.counts[name] != said[name]:
+                raise Missing(f"bison's report is read wrongly: {name} by its actions {self.counts[name]}, by its summary {said[name]}")
+
+    def read_action(self, line):
+        found = ACTION.match(line)
+        if not found:
+            self.counts["settled"] += bool(SOLVED.match(line))
+            return
+        symbol, shift, target, bracket, rule = found.groups()
+        if target:
+            self.targets[-1][symbol] = int(target)
+        if shift:
+            self.clashes[-1][symbol].shifts = True
+        elif rule:
+            self.clashes[-1][symbol].reductions.append(int(rule))
+            self.clashes[-1][symbol].is_conflict |= bracket == "["
+
+    def conflicts(self):
+        """State, token, rule and the other rule (None: the shift) of each conflict."""
+        for state, clashes in enumerate(self.clashes):
+            for token, clash in clashes.items():
+                if clash.is_conflict:
+                    rules = sorted(clash.reductions)
+                    if clash.shifts:
+                        yield from ((state, token, p, None) for p in rules)
+                    yield from ((state, token, p, q) for p in rules for q in rules if p < q)
+
+    def count(self):
+        for clashes in self.clashes:
+            for clash in clashes.values():
+                if clash.is_conflict:
+                    self.counts["shift_reduce"] += clash.shifts
+                    self.counts["reduce_reduce"] += len(clash.reductions) - 1
+        self.counts["distinct"] = len({conflict[1:] for conflict in self.conflicts()})
+        self.counts["states"] = len(self.targets)
+        self.counts["productions"] -= 1  # `$accept: START $end`
+        self.counts["nonterminals"] -= 1  # `$accept`
 
 
 def bison_row(text):
-    """Both counts of bison as one row of the table."""
+    """Both counts of bison as one row of the table, and its two reports."""
+    with_levels = bison_report(without_expectations(text))
+    bare = bison_report(without_precedence(text))
     row = {}
-    with_levels = bison_counts(without_expectations(text))
-    bare = bison_counts(without_precedence(text))
-    row["is_reduced"] = with_levels["is_reduced"]
     for name in SHAPE:
-        row[name] = with_levels[name]
+        row[name] = with_levels.counts[name]
         # a token that stands behind %prec alone is gone with it
-        if bare[name] != with_levels[name] and name != "terminals":
-            raise Missing(f"{name} differ without precedence: {bare[name]}, with {with_levels[name]}")
-    if bare["settled"]:
-        raise Missing(f"without precedence {bare['settled']} conflicts are settled")
+        if bare.counts[name] != row[name] and name != "terminals":
+            raise Missing(f"{name} differ without precedence: {bare.counts[name]}, with {row[name]}")
+    if bare.counts["settled"]:
+        raise Missing(f"without precedence {bare.counts['settled']} conflicts are settled")
     for name in CONFLICTS:
-        row[name] = with_levels[name]
+        row[name] = with_levels.counts[name]
         if name != "settled":
-            row["bare_" + name] = bare[name]
-    return row
+            row["bare_" + name] = bare.counts[name]
+    return row, with_levels, bare
 
 
 # ---- the command
@@ -342,7 +367,7 @@ def compare_verdicts(program, has_bison):
     for name, row in rows.items():
         path = os.path.join(tables, name)
         if has_bison and row["verdict"] != "refused":
-            counts = bison_counts(without_expectations(read_file(path)))
+            counts = bison_report(without_expectations(read_file(path))).counts
             found += [f"tables/{name}: {f}: bison {counts[f]}, tables/verdicts.tsv {row[f]}" for f in ("shift_reduce", "reduce_reduce") if str(counts[f]) != row[f]]
         if program is None:
             continue
@@ -453,7 +478,7 @@ def main():
             if wish.update or wish.bison or not is_stored:
                 if not is_stored and not wish.update:
                     print(f"{name}: not the file of oracle/real.tsv, bison is asked", file=sys.stderr)
-                row.update(bison_row(text))
+                row.update(bison_row(text)[0])
                 if is_stored and not wish.update:
                     differences += [f"{name}: {c}: bison {row[c]}, oracle/real.tsv {stored[c]}" for c in COLUMNS[4:] if str(row[c]) != stored[c]]
             else:
