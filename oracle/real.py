@@ -4,8 +4,9 @@
 For each FOLDER/NAME.y (oracle/real.sh fetches them) the counts of `lihvemur --format json`, as the file is and
 with --no-precedence, are held against bison's: shift/reduce and reduce/reduce conflicts, what precedence settled,
 conflicts distinct by rules and token, nonterminals, terminals, productions, LALR states. Bison's counts stand in
-oracle/real.tsv, so that the comparison needs no bison; with --bison bison is asked, and the table is held against
-it too. Without precedence bison gets the file with %left, %right, %nonassoc and %precedence made %token and
+oracle/real.tsv, so that the comparison needs no bison. With --bison bison is asked, the table is held against it, and
+so are the conflicts themselves: rules and token of each, what settles which, and that the symbols said to lead there
+lead bison's automaton to a state with that conflict. Without precedence bison gets the file with %left, %right, %nonassoc and %precedence made %token and
 without %prec and %expect (`without_precedence` below, which knows nothing of the command).
 
 Status: 0 all equal, 1 a difference (each is named), 4 usage or something that is not there.
@@ -18,6 +19,7 @@ import json
 import os
 import re
 import shutil
+import signal
 import subprocess
 import sys
 import tempfile
@@ -28,14 +30,24 @@ TABLE = os.path.join(HERE, "real.tsv")
 PROGRAM = os.path.join(HERE, "..", "crates", "lihvemur_command", "out", "lihvemur_command")
 SHAPE = ["nonterminals", "terminals", "productions", "states"]
 CONFLICTS = ["shift_reduce", "reduce_reduce", "settled", "distinct"]
-COLUMNS = ["name", "package", "version", "sha256"] + SHAPE + CONFLICTS + ["bare_" + c for c in CONFLICTS if c != "settled"]
-# bison's own default drops states that precedence made unreachable; the command keeps them, as LALR has them
-FORCED = ["-Flr.type=lalr", "-Flr.keep-unreachable-state=true"]
+CANONICAL = ["states"] + CONFLICTS
+COLUMNS = ["name", "package", "version", "sha256"] + SHAPE + CONFLICTS + ["bare_" + c for c in CONFLICTS if c != "settled"] + ["lr1_" + c for c in CANONICAL]
+# bison by itself drops states that precedence made unreachable; the command keeps them, as the automaton has them
+ALL_STATES = "-Flr.keep-unreachable-state=true"
+LALR = "-Flr.type=lalr"
+LR1 = "-Flr.type=canonical-lr"
+# processor seconds and bytes that bison may take for canonical LR(1) states: of a grammar that takes more they are not compared
+PATIENCE = 20
+ROOM = 2 << 30
 ENVIRONMENT = dict(os.environ, LC_ALL="C.UTF-8")
 
 
 class Missing(Exception):
     """Something that the comparison needs is not there, or does not answer."""
+
+
+class TooLarge(Exception):
+    """Bison would take more time or memory than it is given."""
 
 
 # ---- the file without precedence
@@ -112,6 +124,25 @@ def without(text, has_levels):
     return b"".join(out) + text[at:]
 
 
+def expectations(text):
+    """The numbers that %expect and %expect-rr of the declarations say, 0 where they are not there."""
+    said = {b"%expect": 0, b"%expect-rr": 0}
+    before = None
+    at = 0
+    while at < len(text):
+        piece = PIECE.match(text, at)
+        kind, word, at = piece.lastgroup, piece.group(), piece.end()
+        if kind == "mark":
+            break
+        if kind == "open":
+            at = end_of_code(text, at - 1)
+        if kind == "number" and before in said:
+            said[before] = int(word)
+        if not word.isspace():
+            before = word
+    return said[b"%expect"], said[b"%expect-rr"]
+
+
 def without_precedence(text):
     return without(text, False)
 
@@ -124,11 +155,11 @@ def without_expectations(text):
 # ---- bison
 
 
-def run(words, **options):
+def run(words):
     """Runs a program: status, standard output, standard error, seconds, peak kilobytes."""
     with tempfile.TemporaryFile() as out, tempfile.TemporaryFile() as error:
         begin = time.monotonic()
-        child = subprocess.Popen(words, stdin=subprocess.DEVNULL, stdout=out, stderr=error, env=ENVIRONMENT, **options)
+        child = subprocess.Popen(words, stdin=subprocess.DEVNULL, stdout=out, stderr=error, env=ENVIRONMENT)
         _, status, usage = os.wait4(child.pid, 0)
         seconds = time.monotonic() - begin
         child.returncode = os.waitstatus_to_exitcode(status)
@@ -137,15 +168,17 @@ def run(words, **options):
         return child.returncode, out.read(), error.read(), seconds, usage.ru_maxrss
 
 
-def bison_report(text, forced=FORCED):
+def bison_report(text, kind=LALR, words=()):
     """Bison's report of one grammar (see oracle/README.md, the footing of the counts)."""
     with tempfile.TemporaryDirectory() as folder:
         path = os.path.join(folder, "grammar.y")
         report = os.path.join(folder, "report")
         with open(path, "wb") as file:
             file.write(text)
-        words = ["bison", "-Wnone", *forced, "--report=solved", "--report-file=" + report, "-o", os.path.join(folder, "parser.c"), path]
+        words = [*words, "bison", "-Wnone", kind, ALL_STATES, "--report=solved", "--report-file=" + report, "-o", os.path.join(folder, "parser.c"), path]
         status, _, error, _, _ = run(words)
+        if status == -signal.SIGXCPU or b"memory exhausted" in error:
+            raise TooLarge
         if status != 0:
             raise Missing("bison refuses it: " + error.decode("utf-8", "replace").split("\n")[0])
         with open(report, encoding="utf-8", errors="surrogateescape") as file:
@@ -156,7 +189,8 @@ RULE = re.compile(r"^ +(\d+) (?:(\S+):|\s*\|)(.*)$")
 SYMBOL = re.compile(r"\"(?:\\.|[^\"\\])*\"|'(?:\\.|[^'\\])+'|\S+")
 CONFLICT_LINE = re.compile(r"^State \d+ conflicts: (?:(\d+) shift/reduce)?(?:, )?(?:(\d+) reduce/reduce)?")
 ACTION = re.compile(r"^    (\S+|\"(?:\\.|[^\"\\])*\"|'(?:\\.|[^'\\])*') +(?:(shift), and )?(?:go to state (\d+)|(\[?)reduce using rule (\d+) \(|error )")
-SOLVED = re.compile(r"^    Conflict between rule \d+ and token .* resolved as (shift|reduce|an error) \(")
+SOLVED = re.compile(r"^    Conflict between rule (\d+) and token (.*) resolved as (shift|reduce|an error) \(")
+KEPT = {"shift": "shift", "reduce": "reduction", "an error": "neither"}
 
 
 class Clash:
@@ -175,6 +209,7 @@ class Report:
         self.rules = {}  # by number: the left side and the right side
         self.targets = []  # of each state: where its symbols lead
         self.clashes = []  # of each state: what is done before its tokens
+        self.solved = set()  # rule, token and what precedence keeps
         self.is_reduced = False  # whether bison left out what is useless
         self.counts = collections.Counter({name: 0 for name in SHAPE + CONFLICTS})
         said = collections.Counter()
@@ -213,7 +248,11 @@ class Report:
     def read_action(self, line):
         found = ACTION.match(line)
         if not found:
-            self.counts["settled"] += bool(SOLVED.match(line))
+            found = SOLVED.match(line)
+            if found:
+                rule, token, kept = found.groups()
+                self.counts["settled"] += 1
+                self.solved.add((int(rule), token, KEPT[kept]))
             return
         symbol, shift, target, bracket, rule = found.groups()
         if target:
@@ -265,10 +304,136 @@ def bison_row(text):
     return row, with_levels, bare
 
 
+def canonical_row(text):
+    """The part of the row about canonical LR(1) states; `-`, where they are too many."""
+    try:
+        counts = bison_report(without_expectations(text), LR1, ["prlimit", f"--cpu={PATIENCE}", f"--as={ROOM}"]).counts
+        return {"lr1_" + name: counts[name] for name in CANONICAL}
+    except TooLarge:
+        return {"lr1_" + name: "-" for name in CANONICAL}
+
+
+# ---- names: bison reports a token by its alias, the command may by its name
+
+
+CHARACTERS = {"\\n": "\n", "\\t": "\t", "\\r": "\r", "\\f": "\f", "\\v": "\v", "\\a": "\a", "\\b": "\b", "\\\\": "\\", "\\'": "'", '\\"': '"'}
+
+
+class Names:
+    """One name for each symbol of a file."""
+
+    def __init__(self, text):
+        self.names = {}
+        is_token = False
+        last = None
+        at = 0
+        marks = 0
+        while at < len(text) and marks < 2:
+            piece = PIECE.match(text, at)
+            kind, word, at = piece.lastgroup, piece.group(), piece.end()
+            if kind == "open":
+                at = end_of_code(text, at - 1)
+            marks += kind == "mark"
+            if kind == "directive":
+                is_token = word in (b"%token", b"%term", b"%0")
+                last = None
+            elif kind in ("open", "mark", "prologue") or word == b";":
+                is_token = False
+            elif is_token and kind in ("name", "character"):
+                last = word.decode("utf-8", "surrogateescape")
+            elif is_token and kind == "number" and int(word) == 0 and last:
+                self.names[last] = "$end"
+            elif is_token and kind == "string" and last:
+                self.names[self.spelled(word.decode("utf-8", "surrogateescape"))] = last
+
+    @staticmethod
+    def spelled(name):
+        """A character or a string, its escapes read."""
+        if name[:1] not in "'\"":
+            return name
+        inner = re.sub(r"\\([0-7]{1,3}|x[0-9a-fA-F]+|.)", Names.escape, name[1:-1])
+        return name[0] + inner + name[0]
+
+    @staticmethod
+    def escape(found):
+        word = found.group(1)
+        if word[0] in "01234567":
+            return chr(int(word, 8))
+        if word[0] == "x" and len(word) > 1:
+            return chr(int(word[1:], 16))
+        return CHARACTERS.get(found.group(), word)
+
+    def one(self, name):
+        if re.fullmatch(r"\$?@\d+", name):
+            return "@" + name.split("@")[1]
+        name = self.spelled(name)
+        name = self.names.get(name, name)
+        return self.names.get(name, name)
+
+    def rule(self, left, right):
+        return self.one(left), tuple(self.one(x) for x in right)
+
+
+def words_of(rule):
+    return f"{rule[0]}: {' '.join(rule[1]) or '%empty'}"
+
+
 # ---- the command
 
 
-def program_summary(program, path, *options):
+def compare_conflicts(name, answer, report, bare, names):
+    """Where the conflicts of the command are not bison's, by their rules and token, as lines."""
+    rules = {number: names.rule(*rule) for number, rule in report.rules.items()}
+    expected = set()
+    for _, token, p, q in report.conflicts():
+        expected.add((frozenset((rules[p], "shift" if q is None else rules[q])), names.one(token)))
+    found = set()
+    lines = []
+    targets = [{names.one(x): to for x, to in state.items()} for state in bare.targets]
+    clashes = [{names.one(x): clash for x, clash in state.items()} for state in bare.clashes]
+    for conflict in answer["conflicts"]:
+        reduced = [names.rule(r["left"], r["right"]) for r in conflict["rules"] if r["action"] == "reduce"]
+        other = reduced[1] if len(reduced) > 1 else "shift"
+        tokens = [names.one(x) for x in conflict["tokens"]]
+        found.update((frozenset((reduced[0], other)), token) for token in tokens)
+        state = 0
+        for symbol in conflict["after"]:
+            state = targets[state].get(names.one(symbol)) if state is not None else None
+        at_state = {} if state is None else clashes[state]
+        if not any(token in at_state and do_clash(at_state[token], rules, reduced[0], other) for token in tokens):
+            lines.append(f"{name}: `{' '.join(conflict['after'])}` leads to no such conflict of {words_of(reduced[0])} before {' '.join(tokens)}")
+    for title, rest in (("bison has, and lihvemur has not", expected - found), ("lihvemur has, and bison has not", found - expected)):
+        for pair, token in sorted(rest, key=str)[:3]:
+            lines.append(f"{name}: {title}: before {token}: " + " / ".join(sorted(x if x == "shift" else words_of(x) for x in pair)))
+        if len(rest) > 3:
+            lines.append(f"{name}: {title}: {len(rest)} in all")
+    return lines
+
+
+def do_clash(clash, rules, rule, other):
+    reductions = [rules.get(number) for number in clash.reductions]
+    return rule in reductions and (clash.shifts if other == "shift" else other in reductions)
+
+
+def compare_settled(name, answer, report, names):
+    """Where precedence settles what it does not for bison, or otherwise, as lines."""
+    expected = {(names.rule(*report.rules[rule]), names.one(token), kept) for rule, token, kept in report.solved}
+    found = set()
+    for settled in answer.get("settled", []):
+        for rule in settled["rules"]:
+            if rule["action"] == "reduce":
+                found.update((names.rule(rule["left"], rule["right"]), names.one(token), settled["by"]["kept"]) for token in settled["tokens"])
+                break
+    lines = []
+    for title, rest in (("bison settles, and lihvemur does not", expected - found), ("lihvemur settles, and bison does not", found - expected)):
+        for rule, token, kept in sorted(rest, key=str)[:3]:
+            lines.append(f"{name}: {title}: {words_of(rule)} before {token}: {kept}")
+        if len(rest) > 3:
+            lines.append(f"{name}: {title}: {len(rest)} in all")
+    return lines
+
+
+def program_answer(program, path, *options):
     status, out, error, _, _ = run([program, *options, "--format", "json", path])
     if status not in (0, 1):
         first = error.decode("utf-8", "replace").strip().split("\n")[0]
@@ -277,30 +442,50 @@ def program_summary(program, path, *options):
         answer = json.loads(out)
     except ValueError as reason:
         raise Missing(f"no JSON: {reason}")
-    if isinstance(answer, list):
-        answer = answer[0]
-    if "files" in answer:
-        answer = answer["files"][0]
+    return status, answer
+
+
+def program_summary(program, path, *options):
+    status, answer = program_answer(program, path, *options)
     return status, answer["summary"]
 
 
-def compare(name, row, program, path):
+def compare_contents(name, program, path, report, bare):
+    """The differences from bison's reports in what the conflicts are, with precedence and without, as lines."""
+    names = Names(read_file(path))
+    try:
+        _, answer = program_answer(program, path, "--settled")
+        _, answer_bare = program_answer(program, path, "--no-precedence")
+    except Missing as reason:
+        return [f"{name}: {reason}"]
+    return (
+        compare_conflicts(name, answer, report, bare, names)
+        + compare_settled(name, answer, report, names)
+        + compare_conflicts(name + " without precedence", answer_bare, bare, bare, names)
+    )
+
+
+def compare(name, row, program, path, has_lr1=False):
     """The differences, as lines."""
     found = []
-    for title, prefix, options in (("", "", []), (" without precedence", "bare_", ["--no-precedence"])):
+    expected_conflicts = expectations(read_file(path))
+    runs = [("", SHAPE + CONFLICTS, "", []), (" without precedence", SHAPE + CONFLICTS, "bare_", ["--no-precedence"])]
+    if has_lr1 and row["lr1_states"] != "-":
+        runs.append((" by LR(1)", CANONICAL, "lr1_", ["--table", "lr1"]))
+    for title, fields, prefix, options in runs:
         try:
             status, summary = program_summary(program, path, *options)
         except Missing as reason:
             found.append(f"{name}{title}: {reason}")
             continue
-        for field in SHAPE + CONFLICTS:
-            if field == "settled" and prefix:
-                expected = 0
-            else:
-                expected = int(row[field if field in SHAPE else prefix + field])
+        wanted = 0 if (summary.get("shift_reduce"), summary.get("reduce_reduce")) == expected_conflicts else 1
+        if status != wanted:
+            found.append(f"{name}{title}: status {status}, and should be {wanted} (%expect says {expected_conflicts[0]} and {expected_conflicts[1]})")
+        for field in fields:
+            expected = row.get(prefix + field, row.get(field) if field in SHAPE else 0)
             if field not in summary:
                 found.append(f"{name}{title}: no field `{field}` in summary")
-            elif summary[field] != expected:
+            elif summary[field] != int(expected):
                 found.append(f"{name}{title}: {field}: lihvemur {summary[field]}, bison {expected}")
     return found
 
@@ -426,6 +611,7 @@ def arguments():
     parser.add_argument("--update", action="store_true", help="make oracle/real.tsv anew from bison, compare nothing")
     parser.add_argument("--times", action="store_true", help="time and peak memory of both, best of --rounds, as a table; compare nothing")
     parser.add_argument("--rounds", type=int, default=3, help="runs of each for --times (default: 3)")
+    parser.add_argument("--lr1", action="store_true", help=f"compare canonical LR(1) states too, of the grammars for which bison takes at most {PATIENCE} s")
     parser.add_argument("--tables", action="store_true", help="look at tables/*.y and tables/command/*.y in place of real grammars: bison's and the command's counts and verdicts against tables/verdicts.tsv (without the command, bison's alone)")
     parser.add_argument("--strip", metavar="FILE", help="write FILE without precedence to standard output, and end")
     parser.add_argument("names", nargs="*", metavar="NAME", help="grammars to look at (default: all)")
@@ -474,20 +660,26 @@ def main():
         row["sha256"] = hashlib.sha256(text).hexdigest()
         stored = table.get(name)
         is_stored = stored is not None and stored["sha256"] == row["sha256"]
+        report = None
         try:
             if wish.update or wish.bison or not is_stored:
                 if not is_stored and not wish.update:
                     print(f"{name}: not the file of oracle/real.tsv, bison is asked", file=sys.stderr)
-                row.update(bison_row(text)[0])
+                counts, report, bare = bison_row(text)
+                row.update(counts)
+                if wish.update or wish.lr1:
+                    row.update(canonical_row(text))
                 if is_stored and not wish.update:
-                    differences += [f"{name}: {c}: bison {row[c]}, oracle/real.tsv {stored[c]}" for c in COLUMNS[4:] if str(row[c]) != stored[c]]
+                    differences += [f"{name}: {c}: bison {row[c]}, oracle/real.tsv {stored[c]}" for c in COLUMNS[4:] if c in row and str(row[c]) != stored[c]]
             else:
                 row = stored
         except (Missing, FileNotFoundError) as reason:
             differences.append(f"{name}: {reason}")
             continue
         if not wish.update:
-            differences += compare(name, row, wish.program, path)
+            differences += compare(name, row, wish.program, path, wish.lr1)
+            if report:
+                differences += compare_contents(name, wish.program, path, report, bare)
             compared += 1
         table[name] = row
     for line in differences:
