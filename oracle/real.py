@@ -39,6 +39,8 @@ LR1 = "-Flr.type=canonical-lr"
 # processor seconds and bytes that bison may take for canonical LR(1) states: of a grammar that takes more they are not compared
 PATIENCE = 20
 ROOM = 2 << 30
+# seconds after which the command hangs
+HANG = 60
 ENVIRONMENT = dict(os.environ, LC_ALL="C.UTF-8")
 
 
@@ -307,7 +309,7 @@ def bison_row(text):
 def canonical_row(text):
     """The part of the row about canonical LR(1) states; `-`, where they are too many."""
     try:
-        counts = bison_report(without_expectations(text), LR1, ["prlimit", f"--cpu={PATIENCE}", f"--as={ROOM}"]).counts
+        counts = bison_report(without_expectations(text), LR1, ["prlimit", f"--cpu={PATIENCE}:{2 * PATIENCE}", f"--as={ROOM}"]).counts
         return {"lr1_" + name: counts[name] for name in CANONICAL}
     except TooLarge:
         return {"lr1_" + name: "-" for name in CANONICAL}
@@ -434,7 +436,9 @@ def compare_settled(name, answer, report, names):
 
 
 def program_answer(program, path, *options):
-    status, out, error, _, _ = run([program, *options, "--format", "json", path])
+    status, out, error, _, _ = run(["timeout", str(HANG), program, *options, "--format", "json", path])
+    if status == 124:
+        raise Missing(f"no answer in {HANG} s")
     if status not in (0, 1):
         first = error.decode("utf-8", "replace").strip().split("\n")[0]
         raise Missing(f"status {status}: {first}")
@@ -506,7 +510,7 @@ def write_table(path, rows):
         file.write("# Bison's counts of the real grammars that oracle/real.sh fetches; made by oracle/real.py --update.\n")
         file.write("\t".join(COLUMNS) + "\n")
         for row in rows:
-            file.write("\t".join(str(row[column]) for column in COLUMNS) + "\n")
+            file.write("\t".join(str(row.get(column, "-")) for column in COLUMNS) + "\n")
 
 
 def sources(folder):
@@ -685,9 +689,9 @@ def main():
     for line in differences:
         print(line)
     if wish.update:
-        names = [row["name"] for row in sources(wish.folder)]
-        write_table(TABLE, [table[name] for name in names if name in table])
-        print(f"{len(table)} rows in oracle/real.tsv, {len(differences)} problems")
+        rows = [table[row["name"]] for row in sources(wish.folder) if row["name"] in table]
+        write_table(TABLE, rows)
+        print(f"{len(rows)} rows in oracle/real.tsv, {len(differences)} problems")
     else:
         print(f"{compared} grammars compared, {len(differences)} differences")
     return 1 if differences else 0
