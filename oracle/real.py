@@ -326,6 +326,7 @@ class Names:
 
     def __init__(self, text):
         self.names = {}
+        self.lines = text.split(b"\n")
         is_token = False
         last = None
         at = 0
@@ -394,6 +395,9 @@ def compare_conflicts(name, answer, report, bare, names):
     targets = [{names.one(x): to for x, to in state.items()} for state in bare.targets]
     clashes = [{names.one(x): clash for x, clash in state.items()} for state in bare.clashes]
     for conflict in answer["conflicts"]:
+        for rule in conflict["rules"]:
+            if wrong_place(rule, names.lines, names):
+                lines.append(f"{name}: line {rule['line']} column {rule['column']} is not the place of `{rule['text']}`")
         reduced = [names.rule(r["left"], r["right"]) for r in conflict["rules"] if r["action"] == "reduce"]
         other = reduced[1] if len(reduced) > 1 else "shift"
         tokens = [names.one(x) for x in conflict["tokens"]]
@@ -410,6 +414,19 @@ def compare_conflicts(name, answer, report, bare, names):
         if len(rest) > 3:
             lines.append(f"{name}: {title}: {len(rest)} in all")
     return lines
+
+
+def wrong_place(rule, lines, names):
+    """Whether the place that is said of a rule has not the symbol that must stand there, by the symbol behind the dot or the first."""
+    right = rule["right"]
+    if not right:
+        return False
+    wanted = names.one(right[rule["dot"] if rule["action"] == "shift" else 0])
+    if wanted.startswith("@"):
+        return False
+    line = lines[rule["line"] - 1] if rule["line"] <= len(lines) else b""
+    found = PIECE.match(line, rule["column"] - 1) if rule["column"] <= len(line) else None
+    return found is None or names.one(found.group().decode("utf-8", "surrogateescape")) != wanted
 
 
 def do_clash(clash, rules, rule, other):
