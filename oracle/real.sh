@@ -4,7 +4,7 @@ set -euo pipefail
 
 usage() {
     cat <<'TEXT'
-Usage: oracle/real.sh [--folder FOLDER] [--fetch] [--again] [--bison] [--program PATH]
+Usage: oracle/real.sh [--folder FOLDER] [--fetch] [--again] [--bison] [--lr1] [--times] [--program PATH]
        oracle/real.sh --help | --list
 
 Fetches the yacc files of 20 Debian source packages (40 grammars) into FOLDER, as FOLDER/NAME.y, and then
@@ -15,7 +15,9 @@ never committed, so FOLDER lies outside the repository.
                     (default: ${XDG_CACHE_HOME:-$HOME/.cache}/lihvemur-real)
   --fetch           fetch alone, compare nothing
   --again           unpack files that are there already once more
-  --bison           passed on to real.py: ask bison itself, not the stored table
+  --bison           passed on to real.py: ask bison itself too, and compare the conflicts one by one
+  --lr1             passed on to real.py: compare canonical LR(1) states too
+  --times           compare, then print seconds and megabytes of both, best of three
   --program PATH    passed on to real.py: the command's binary
                     (default: crates/lihvemur_command/out/lihvemur_command)
   --list            the grammars with package, file and step, and end
@@ -94,6 +96,7 @@ here=$(cd "$(dirname "$0")" && pwd)
 folder=${XDG_CACHE_HOME:-$HOME/.cache}/lihvemur-real
 fetch_alone=false
 again=false
+has_times=false
 passed_on=()
 
 while [ $# -gt 0 ]; do
@@ -106,7 +109,8 @@ while [ $# -gt 0 ]; do
             shift 2 ;;
         --fetch) fetch_alone=true; shift ;;
         --again) again=true; shift ;;
-        --bison) passed_on+=("$1"); shift ;;
+        --bison | --lr1) passed_on+=("$1"); shift ;;
+        --times) has_times=true; shift ;;
         *) echo "real.sh: unknown argument '$1'; see --help" >&2; exit 4 ;;
     esac
 done
@@ -304,5 +308,8 @@ echo "$(wc -l <"$folder/sources.tsv") grammars stand in $folder"
 
 if ! $fetch_alone; then
     python3 "$here/real.py" --folder "$folder" "${passed_on[@]}" || missing=$((missing + 1))
+    if $has_times; then
+        python3 "$here/real.py" --folder "$folder" "${passed_on[@]}" --times || missing=$((missing + 1))
+    fi
 fi
 [ "$missing" -eq 0 ]
