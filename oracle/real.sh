@@ -29,7 +29,7 @@ What it does, in this order:
  2. For each package `apt-get source --download-only`: the version of oracle/real.tsv where the archive has
     it, else the newest that can be had.
  3. Unpacks the grammar files alone, and applies what Debian's patches change in them.
- 4. Applies to three files the step that the package's own build applies (--list says which).
+ 4. Applies to two files the step that the package's own build applies (--list says which).
  5. Writes FOLDER/sources.tsv: name, package, version, file, sha256, step.
 A package that can't be had is said, and the run goes on. Status: 0 all fetched and all equal, 1 a difference
 or a package that can't be had, 4 usage.
