@@ -438,11 +438,9 @@ def compare_settled(name, answer, report, names):
     """Where precedence settles what it does not for bison, or otherwise, as lines."""
     expected = {(names.rule(*report.rules[rule]), names.one(token), kept) for rule, token, kept in report.solved}
     found = set()
-    for settled in answer.get("settled", []):
-        for rule in settled["rules"]:
-            if rule["action"] == "reduce":
-                found.update((names.rule(rule["left"], rule["right"]), names.one(token), settled["by"]["kept"]) for token in settled["tokens"])
-                break
+    for settled in answer["settled"]:
+        rule = settled["rules"][0]
+        found.update((names.rule(rule["left"], rule["right"]), names.one(token), settled["kept"]) for token in settled["tokens"])
     lines = []
     for title, rest in (("bison settles, and lihvemur does not", expected - found), ("lihvemur settles, and bison does not", found - expected)):
         for rule, token, kept in sorted(rest, key=str)[:3]:
