@@ -31,7 +31,7 @@ import real
 
 HERE = os.path.dirname(os.path.abspath(__file__))
 TOP = os.path.dirname(HERE)
-PROGRAM = os.path.join(TOP, "crates", "lihvemur_command", "out", "lihvemur_command")
+PROGRAM = os.path.join(TOP, "crates", "lihvemur", "out", "lihvemur")
 CACHE = os.environ.get("XDG_CACHE_HOME") or os.path.expanduser("~/.cache")
 
 # What the processes are told, by turns; a count alone is the quickest and comes most often.
@@ -242,7 +242,7 @@ def against_bison(wish, program, seed, texts):
 def arguments():
     parser = argparse.ArgumentParser(description=__doc__, formatter_class=argparse.RawDescriptionHelpFormatter, allow_abbrev=False)
     parser.add_argument("--folder", default=os.path.join(CACHE, "lihvemur-real"), help="where oracle/real.sh put the grammars (default: %(default)s)")
-    parser.add_argument("--program", default=PROGRAM, help="the command's binary (default: crates/lihvemur_command/out/lihvemur_command)")
+    parser.add_argument("--program", default=PROGRAM, help="the command's binary (default: crates/lihvemur/out/lihvemur)")
     parser.add_argument("--count", type=int, default=100000, help="how many files (default: %(default)s)")
     parser.add_argument("--seed", type=int, help="default: from the clock; it is printed")
     parser.add_argument("--first", type=int, default=0, metavar="INDEX", help="the number of the first file (default: 0)")

@@ -73,7 +73,7 @@ def grammar(seed, index):
 
 def main():
     parser = argparse.ArgumentParser(description=__doc__, formatter_class=argparse.RawDescriptionHelpFormatter, allow_abbrev=False)
-    parser.add_argument("--program", default=real.PROGRAM, help="the command's binary (default: crates/lihvemur_command/out/lihvemur_command)")
+    parser.add_argument("--program", default=real.PROGRAM, help="the command's binary (default: crates/lihvemur/out/lihvemur)")
     parser.add_argument("--count", type=int, default=1000, help="how many grammars (default: %(default)s)")
     parser.add_argument("--seed", type=int, help="default: from the clock; it is printed")
     parser.add_argument("--keep", default=os.path.join(CACHE, "lihvemur-findings"), help="where grammars that differ are kept (default: %(default)s)")

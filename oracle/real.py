@@ -27,7 +27,7 @@ import time
 
 HERE = os.path.dirname(os.path.abspath(__file__))
 TABLE = os.path.join(HERE, "real.tsv")
-PROGRAM = os.path.join(HERE, "..", "crates", "lihvemur_command", "out", "lihvemur_command")
+PROGRAM = os.path.join(HERE, "..", "crates", "lihvemur", "out", "lihvemur")
 SHAPE = ["nonterminals", "terminals", "productions", "states"]
 CONFLICTS = ["shift_reduce", "reduce_reduce", "settled", "distinct"]
 CANONICAL = ["states"] + CONFLICTS
@@ -625,7 +625,7 @@ def arguments():
     default_folder = os.path.join(os.environ.get("XDG_CACHE_HOME") or os.path.expanduser("~/.cache"), "lihvemur-real")
     parser = argparse.ArgumentParser(description=__doc__, formatter_class=argparse.RawDescriptionHelpFormatter, allow_abbrev=False)
     parser.add_argument("--folder", default=default_folder, help="where oracle/real.sh put the grammars (default: %(default)s)")
-    parser.add_argument("--program", default=PROGRAM, help="the command's binary (default: crates/lihvemur_command/out/lihvemur_command)")
+    parser.add_argument("--program", default=PROGRAM, help="the command's binary (default: crates/lihvemur/out/lihvemur)")
     parser.add_argument("--bison", action="store_true", help="ask bison too, and hold the stored table against it")
     parser.add_argument("--update", action="store_true", help="make oracle/real.tsv anew from bison, compare nothing")
     parser.add_argument("--times", action="store_true", help="time and peak memory of both, best of --rounds, as a table; compare nothing")

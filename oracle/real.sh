@@ -19,7 +19,7 @@ never committed, so FOLDER lies outside the repository.
   --lr1             passed on to real.py: compare canonical LR(1) states too
   --times           compare, then print seconds and megabytes of both, best of three
   --program PATH    passed on to real.py: the command's binary
-                    (default: crates/lihvemur_command/out/lihvemur_command)
+                    (default: crates/lihvemur/out/lihvemur)
   --list            the grammars with package, file and step, and end
   --help            this text
 

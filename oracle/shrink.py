@@ -93,7 +93,7 @@ def shrink(judge, pieces, sort):
 def main():
     parser = argparse.ArgumentParser(description=__doc__, formatter_class=argparse.RawDescriptionHelpFormatter, allow_abbrev=False)
     parser.add_argument("file", metavar="FILE")
-    parser.add_argument("--program", default=real.PROGRAM, help="the command's binary (default: crates/lihvemur_command/out/lihvemur_command)")
+    parser.add_argument("--program", default=real.PROGRAM, help="the command's binary (default: crates/lihvemur/out/lihvemur)")
     parser.add_argument("--finding", metavar="OPTIONS", help="look for a finding of fuzz.py with these options of the command, e.g. 'check'")
     parser.add_argument("--seconds", type=float, default=2.0, help="limit for a finding (default: %(default)s)")
     parser.add_argument("--output", help="where what is left is written")
