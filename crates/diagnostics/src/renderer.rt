@@ -9,6 +9,7 @@ use std::alloc::{AllocError, Global};
 
 // How many bytes of a longer line are shown, and how many of them before the place in question.
 const SHOWN: usize = 160;
+
 const BEFORE: usize = 60;
 
 // What stands where a line was cut.
@@ -230,7 +231,12 @@ impl<'a> Renderer<'a> {
         let word = format!(in self.alloc; "{severity}")?;
         let message = diagnostic.message.as_str();
         self.push_head(out, diagnostic.span, (style, word.as_str()), message)?;
-        self.push_excerpt(out, self.digits(diagnostic.span), diagnostic.span, (style, ""))?;
+        self.push_excerpt(
+            out,
+            self.digits(diagnostic.span),
+            diagnostic.span,
+            (style, ""),
+        )?;
         if let Some(note) = &diagnostic.note {
             self.push_head(out, note.span, (Style::Note, "note"), note.message.as_str())?;
             self.push_excerpt(out, self.digits(note.span), note.span, (Style::Note, ""))?;

@@ -7,6 +7,7 @@ use std::alloc::{AllocError, Global};
 // For so many names it is looked which other name may be meant, and so many comparisons are made
 // for all of them together. A file with very many misspelled names would take long without.
 const HINTS: usize = 20;
+
 const COMPARISONS: usize = 100_000;
 
 /// Mistakes as they are collected.

@@ -218,9 +218,9 @@ impl Parser {
         self.error(directive.name.span, message.as_str(), "")
     }
 
-    // Leaves out words up to the next directive, `%%`, `;` or rule. What is not closed is said, the
-    // first of such words in a row.
-    fn skip(&mut self) -> Result<(), AllocError>
+    // Leaves out words up to the next directive, `%%`, `;` or rule. What is wrong with one is said, of
+    // several in a row with the first. Behind an error only what is not closed is said.
+    fn skip(&mut self, is_behind_error: bool) -> Result<(), AllocError>
         ensures left { self.new.left ≤ self.old.left }
         ensures file { self.new.file ≡ self.old.file }
     {
@@ -233,7 +233,7 @@ impl Parser {
                 | TokenKind::Prologue
                 | TokenKind::Semicolon => break,
                 TokenKind::Name if self.begins_rule() => break,
-                TokenKind::Wrong(fault) if fault.is_open() => {
+                TokenKind::Wrong(fault) if fault.is_open() || !is_behind_error => {
                     if !was_wrong {
                         self.faulty(word.name.span, fault)?;
                     }
@@ -397,18 +397,18 @@ impl Parser {
                 self.file.has_default_precedence = false;
                 Ok(())
             }
-            Keyword::Skipped => self.skip(),
+            Keyword::Skipped => self.skip(false),
             Keyword::Conditional => {
                 self.conditional(directive)?;
-                self.skip()
+                self.skip(true)
             }
             Keyword::Unknown => {
                 self.unknown(directive)?;
-                self.skip()
+                self.skip(true)
             }
             Keyword::Prec | Keyword::Dprec | Keyword::Merge | Keyword::Empty => {
                 self.misplaced(directive)?;
-                self.skip()
+                self.skip(true)
             }
         }
     }
@@ -434,7 +434,7 @@ impl Parser {
                 _ => {
                     let message = "a declaration, as `%token`, or `%%` is expected here";
                     self.unexpected(word, message, "")?;
-                    self.skip()?;
+                    self.skip(true)?;
                 }
             }
         }
@@ -683,7 +683,7 @@ impl Parser {
                 TokenKind::Directive(keyword) => self.declaration(word, keyword)?,
                 _ => {
                     self.no_rule(word)?;
-                    self.skip()?;
+                    self.skip(true)?;
                 }
             }
         }

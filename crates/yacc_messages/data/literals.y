@@ -8,4 +8,5 @@
 list: NUMBER 'b
     | WORD[ OTHER
     | 'x' ? ? ? Y
+    | 'ab' '\x41' '\101' 'Y' | '+ Y '-'
     ;
