@@ -16,7 +16,8 @@ const KIT: &str = "rattle-kit-13f logic dac8208d650f15bf";
 /// The status of a mistake in the command line.
 const USAGE: u8 = 4;
 
-const ABOUT: &str = "Explains the conflicts of yacc and bison grammars: which two rules, before which tokens, and where";
+const ABOUT: &str =
+    "Explains the conflicts of yacc and bison grammars: which two rules, before which tokens, and where";
 
 const USAGES: &str = "lihvemur [OPTIONS] FILE...\n       lihvemur check [OPTIONS] FILE...";
 
@@ -227,7 +228,9 @@ fn perform(
     let mut options = options_of(alloc, mode, matches)?;
     if let Some(text) = matches.get_str("expect") {
         let Some(expected) = expectation_in(text) else {
-            let message = format!(in alloc; "invalid value '{text}' for '--expect <N[,M]>': one number or two, as 3 or 3,1")?;
+            let message = format!(in alloc;
+                "invalid value '{text}' for '--expect <N[,M]>': one number or two, as 3 or 3,1"
+            )?;
             let mut command = command(alloc, version)?;
             let error = command.error(ErrorKind::ValueValidation, message.as_str())?;
             error.print(rt)?;
