@@ -33,12 +33,15 @@ mod tests {
         let outcome = explain(alloc, &options, "f.y", MISTAKEN.as_bytes())?;
         assert_eq!(rt; outcome.status, Status::Unread);
         assert_eq!(rt; outcome.out.as_str(), "");
-        assert_eq!(rt; outcome.errors.as_str(), "\
+        assert_eq!(rt;
+            outcome.errors.as_str(),
+            "\
 f.y:2:7: error: `part` is neither a token nor the name of a rule
  2 | sum : part ;
    |       ^^^^
 help: declare it by `%token`, or write a rule for it
-");
+"
+        );
         Ok(())
     }
 
@@ -51,9 +54,12 @@ help: declare it by `%token`, or write a rule for it
         let outcome = explain(alloc, &options, "f.y", SUM.as_bytes())?;
         assert_eq!(rt; outcome.status, Status::Failed);
         assert_eq!(rt; outcome.out.as_str(), "");
-        assert_eq!(rt; outcome.errors.as_str(), "\
+        assert_eq!(rt;
+            outcome.errors.as_str(),
+            "\
 lihvemur: f.y: --start sun: no rule has this name; did you mean `sum`?
-");
+"
+        );
         Ok(())
     }
 }

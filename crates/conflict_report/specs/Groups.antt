@@ -10,8 +10,9 @@ use Rattle.conflict_report.specs.declared.group.Spot.{Spot}
 -- the conflict of a group in one of its states before one of its tokens
 abbrev pub conflict_at : Group → Spot → Resolved
 conflict_at g s = record {
-    conflict = record { state = s.state; token = s.token; production = g.production; other = g.other };
-    resolution = g.resolution }
+  conflict = record { state = s.state; token = s.token; production = g.production; other = g.other };
+  resolution = g.resolution;
+}
 
 -- all conflicts of a group
 abbrev pub conflicts_at : Group → List Resolved

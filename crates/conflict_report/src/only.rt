@@ -14,9 +14,15 @@ pub enum Only {
 
 // A token's name without its quotes, where it has some.
 fn unquoted(name: &str) -> &str {
-    match name.strip_prefix('\'').and_then(|rest| rest.strip_suffix('\'')) {
+    match name
+        .strip_prefix('\'')
+        .and_then(|rest| rest.strip_suffix('\''))
+    {
         Some(inner) => inner,
-        None => match name.strip_prefix('"').and_then(|rest| rest.strip_suffix('"')) {
+        None => match name
+            .strip_prefix('"')
+            .and_then(|rest| rest.strip_suffix('"'))
+        {
             Some(inner) => inner,
             None => name,
         },
@@ -25,7 +31,10 @@ fn unquoted(name: &str) -> &str {
 
 fn covers(subject: &Subject, span: Span, line: usize) -> bool {
     let first = subject.line(span);
-    let last = subject.lines.place(span.end.min(subject.lines.text.len())).line;
+    let last = subject
+        .lines
+        .place(span.end.min(subject.lines.text.len()))
+        .line;
     first <= line && line <= last
 }
 
@@ -54,10 +63,11 @@ impl Only {
     /// Whether an entry is about it: by one of its tokens or one of its rules.
     pub fn is_about(&self, subject: &Subject, entry: &Entry) -> bool {
         let by_other = match entry.group.other {
-            Other::Shift => entry
-                .shifting
-                .iter()
-                .any(|shifting| is_rule_about(subject, self, shifting.item.production)),
+            Other::Shift => entry.shifting.iter().any(|shifting| is_rule_about(
+                subject,
+                self,
+                shifting.item.production,
+            )),
             Other::Reduce(later) => is_rule_about(subject, self, later),
         };
         by_other

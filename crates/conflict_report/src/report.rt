@@ -214,7 +214,7 @@ impl Report {
             terminals: grammar.terminals.len(),
             productions: grammar.productions.len().saturating_sub(1),
             states: findings.automaton.states.len(),
-                counts: findings.counts,
+            counts: findings.counts,
             distinct: distinct_count(alloc, open.as_slice())?,
             settled: settled.len(),
         };

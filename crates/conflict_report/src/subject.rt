@@ -41,7 +41,10 @@ impl<'a> Subject<'a> {
 
     /// The line of the action among symbols that a nonterminal stands for, if it stands for one.
     pub fn action_line(&self, nonterminal: usize) -> Option<usize> {
-        if !self.name(Symbol::Nonterminal(nonterminal)).starts_with("$@") {
+        if !self
+            .name(Symbol::Nonterminal(nonterminal))
+            .starts_with("$@")
+        {
             return None;
         }
         for production in &self.grammar.productions {

@@ -1,4 +1,4 @@
-// Explains the conflicts before one token, without precedence, one by one.
+// Explains the conflicts of the rules of one name, without precedence, one by one.
 #![tactic(auto)]
 
 use conflict_report::{Detail, Only};
@@ -11,7 +11,9 @@ fn main(rt: HostRuntime) -> Result<ExitCode, AllocError> {
     let mut options = Options::new(alloc);
     options.uses_precedence = false;
     options.detail = Detail::ByState;
-    options.only = Some(Only::Name(String::from_str(alloc, "NOT")?));
-    options.files.push(String::from_str(alloc, "expression.y")?)?;
+    options.only = Some(Only::Name(String::from_str(alloc, "variable")?));
+    options
+        .files
+        .push(String::from_str(alloc, "expression.y")?)?;
     Ok(run(&rt, &options))
 }

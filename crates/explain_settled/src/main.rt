@@ -9,6 +9,8 @@ fn main(rt: HostRuntime) -> Result<ExitCode, AllocError> {
     let alloc = rt.alloc();
     let mut options = Options::new(alloc);
     options.shows_settled = true;
-    options.files.push(String::from_str(alloc, "expression.y")?)?;
+    options
+        .files
+        .push(String::from_str(alloc, "expression.y")?)?;
     Ok(run(&rt, &options))
 }

@@ -51,7 +51,11 @@ pub fn expected_by(options: &Options, grammar: &Grammar, counts: Counts) -> Expe
 pub fn status_by(expected: Expected) -> Status
     ensures { (result ≡ Status.Expected) ↔ IsTrue expected.is_met }
 {
-    if expected.is_met { Status::Expected } else { Status::Conflicts }
+    if expected.is_met {
+        Status::Expected
+    } else {
+        Status::Conflicts
+    }
 }
 
 fn plural(count: usize) -> &'static str {
@@ -76,5 +80,8 @@ pub fn push_expected(out: &mut String, expected: Expected) -> Result<(), AllocEr
         let verb = plural(reductions);
         return write!(out, ", but {reductions} reduce/reduce{verb} expected");
     }
-    write!(out, ", but {shifts} shift/reduce and {reductions} reduce/reduce are expected")
+    write!(
+        out,
+        ", but {shifts} shift/reduce and {reductions} reduce/reduce are expected"
+    )
 }

@@ -24,9 +24,7 @@ pub struct Found {
 fn kind_of(table: Table) -> Kind {
     match table {
         Table::Lalr => Kind::Lalr,
-        Table::Lr1 => Kind::Canonical {
-            limit: MOST_STATES,
-        },
+        Table::Lr1 => Kind::Canonical { limit: MOST_STATES },
     }
 }
 

@@ -10,12 +10,12 @@ mod running;
 mod status;
 mod telling;
 
-pub use telling::{Outcome, explain};
 pub use expectation::{expected_by, status_by};
 pub use finding::{Found, find};
 pub use options::{Expectation, Format, Mode, Options, Table};
 pub use running::run;
 pub use status::Status;
+pub use telling::{Outcome, explain};
 
 /// The version of the command.
 pub const VERSION: &str = "1.0.0-dev";

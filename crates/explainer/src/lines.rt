@@ -1,5 +1,5 @@
-use crate::expectation::push_expected;
 use crate::Options;
+use crate::expectation::push_expected;
 use conflict_report::{Only, Report, Subject};
 use diagnostics::Renderer;
 use report_json::Expected;
@@ -17,10 +17,16 @@ fn push_left_out(
     let verb = if left_out == 1 { "is" } else { "are" };
     match &options.only {
         Some(Only::Line(line)) => {
-            writeln!(out, "--only {line}: {left_out} of {all} entries {verb} left out")
+            writeln!(
+                out,
+                "--only {line}: {left_out} of {all} entries {verb} left out"
+            )
         }
         Some(Only::Name(name)) => {
-            writeln!(out, "--only {name}: {left_out} of {all} entries {verb} left out")
+            writeln!(
+                out,
+                "--only {name}: {left_out} of {all} entries {verb} left out"
+            )
         }
         None => Ok(()),
     }

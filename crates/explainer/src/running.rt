@@ -1,5 +1,5 @@
 use crate::{Options, Outcome, Status, explain};
-use std::io::{ErrorKind, Read};
+use std::io::{ErrorKind, Read, Write};
 use std::process::ExitCode;
 use std::rt::Files;
 use std::{fs, io};
@@ -53,7 +53,7 @@ fn write<R: Print + Eprint>(rt: &R, out: &str) -> Status {
     if out.is_empty() {
         return Status::Expected;
     }
-    match rt.print(out) {
+    match io::writer(rt).write_all(out.as_bytes()) {
         Ok(()) => Status::Expected,
         Err(error) => {
             if error.kind() != ErrorKind::BrokenPipe {

@@ -34,6 +34,10 @@ impl Status {
     pub fn graver(self, other: Status) -> Status
         ensures { number_of result ≡ max (number_of self) (number_of other) }
     {
-        if self.code() < other.code() { other } else { self }
+        if self.code() < other.code() {
+            other
+        } else {
+            self
+        }
     }
 }

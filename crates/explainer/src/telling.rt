@@ -48,7 +48,10 @@ fn push_unknown_start(
     start: &str,
     unknown: &UnknownStart,
 ) -> Result<(), AllocError> {
-    write!(errors, "lihvemur: {name}: --start {start}: no rule has this name")?;
+    write!(
+        errors,
+        "lihvemur: {name}: --start {start}: no rule has this name"
+    )?;
     if let Some(meant) = &unknown.meant {
         write!(errors, "; did you mean `{meant}`?")?;
     }
@@ -56,11 +59,7 @@ fn push_unknown_start(
 }
 
 // Why there is no report.
-fn push_failure(
-    errors: &mut String,
-    name: &str,
-    failure: &Failure,
-) -> Result<(), AllocError> {
+fn push_failure(errors: &mut String, name: &str, failure: &Failure) -> Result<(), AllocError> {
     match failure {
         Failure::Memory => writeln!(errors, "lihvemur: {name}: out of memory"),
         Failure::Limit => writeln!(
@@ -126,10 +125,12 @@ fn tell(
         options.detail,
     );
     let mut report = match found {
-        Ok(Found {
-            analysis: _,
-            report,
-        }) => report,
+        Ok(
+            Found {
+                analysis: _,
+                report,
+            },
+        ) => report,
         Err(failure) => {
             outcome.status = Status::Limited;
             return push_failure(&mut outcome.errors, name, &failure);

@@ -16,7 +16,8 @@ const KIT: &str = "rattle-kit-13f logic dac8208d650f15bf";
 /// The status of a mistake in the command line.
 const USAGE: u8 = 4;
 
-const ABOUT: &str = "Explains the conflicts of yacc and bison grammars: which two rules, before which tokens, and where";
+const ABOUT: &str =
+    "Explains the conflicts of yacc and bison grammars: which two rules, before which tokens, and where";
 
 const USAGES: &str = "lihvemur [OPTIONS] FILE...\n       lihvemur check [OPTIONS] FILE...";
 
@@ -37,6 +38,24 @@ Examples:
   lihvemur parse.y                 explain all conflicts of parse.y
   lihvemur --only ELSE parse.y     only those before ELSE
   lihvemur check *.y               one line for each grammar; status 1 if one has conflicts";
+
+const ONLY: &str = "Only conflicts before this token, or of a rule of this name or on this line";
+
+const ALL: &str = "One entry for each state and token, not for each pair of rules";
+
+const SETTLED: &str = "What precedence settles, and how, in place of the conflicts";
+
+const NO_PRECEDENCE: &str = "Also the conflicts that precedence settles";
+
+const TABLE: &str = "The kind of parser: as yacc and bison make it, or LR(1)";
+
+const START: &str = "Begin with the rule NAME in place of the file's";
+
+const EXPECT: &str = "Expect N shift/reduce and M reduce/reduce conflicts";
+
+const COLOR: &str = "Whether the text has colours";
+
+const QUIET: &str = "No text and no warnings: the status tells";
 
 static FORMATS: [&str; 2] = ["text", "json"];
 
@@ -70,28 +89,51 @@ fn files<'a>(alloc: Global) -> Arg<'a> {
         .help("The grammars; - is the standard input")
 }
 
-fn command<'a>(alloc: Global, version: &'a str) -> Result<Command<'a>, AllocError> {
+// How the conflicts are written.
+fn with_format<'a>(alloc: Global, command: Command<'a>) -> Result<Command<'a>, AllocError> {
     let format = value(alloc, "format", "FORMAT", "How the conflicts are written")
         .short('f')
         .value_parser(FORMATS.as_slice())
         .default_value("text");
-    let table = value(alloc, "table", "TABLE", "The kind of parser: as yacc and bison make it, or LR(1)")
+    command.arg(format)
+}
+
+// Which of the conflicts are told, and how much in one entry.
+fn with_choices<'a>(alloc: Global, command: Command<'a>) -> Result<Command<'a>, AllocError> {
+    let only = value(alloc, "only", "WHAT", ONLY);
+    let all = flag(alloc, "all", ALL);
+    let settled = flag(alloc, "settled", SETTLED);
+    command.arg(only)?.arg(all)?.arg(settled)
+}
+
+// What the parser is.
+fn with_parser<'a>(alloc: Global, command: Command<'a>) -> Result<Command<'a>, AllocError> {
+    let no_precedence = flag(alloc, "no-precedence", NO_PRECEDENCE);
+    let table = value(alloc, "table", "TABLE", TABLE)
         .value_parser(TABLES.as_slice())
         .default_value("lalr");
-    let color = value(alloc, "color", "WHEN", "Whether the text has colours")
+    let start = value(alloc, "start", "NAME", START);
+    command.arg(no_precedence)?.arg(table)?.arg(start)
+}
+
+// What is expected of the file, and how that is said.
+fn with_manners<'a>(alloc: Global, command: Command<'a>) -> Result<Command<'a>, AllocError> {
+    let expect = value(alloc, "expect", "N[,M]", EXPECT);
+    let color = value(alloc, "color", "WHEN", COLOR)
         .value_parser(COLORS.as_slice())
         .default_value("auto");
-    let only = value(alloc, "only", "WHAT", "Only conflicts before this token, or of a rule of this name or on this line");
-    let start = value(alloc, "start", "NAME", "Begin with the rule NAME in place of the file's");
-    let expect = value(alloc, "expect", "N[,M]", "Expect N shift/reduce and M reduce/reduce conflicts");
-    let all = flag(alloc, "all", "One entry for each state and token, not for each pair of rules");
-    let settled = flag(alloc, "settled", "What precedence settles, and how, in place of the conflicts");
-    let no_precedence = flag(alloc, "no-precedence", "Also the conflicts that precedence settles");
-    let quiet = flag(alloc, "quiet", "No text and no warnings: the status tells").short('q');
-    let check = Command::new(alloc, "check")
+    let quiet = flag(alloc, "quiet", QUIET).short('q');
+    command.arg(expect)?.arg(color)?.arg(quiet)
+}
+
+fn check_command<'a>(alloc: Global) -> Result<Command<'a>, AllocError> {
+    Command::new(alloc, "check")
         .about(CHECK_ABOUT)
         .override_usage(CHECK_USAGE)
-        .arg(files(alloc))?;
+        .arg(files(alloc))
+}
+
+fn bare_command<'a>(alloc: Global, version: &'a str) -> Command<'a> {
     Command::new(alloc, "lihvemur")
         .about(ABOUT)
         .version(version)
@@ -99,18 +141,15 @@ fn command<'a>(alloc: Global, version: &'a str) -> Result<Command<'a>, AllocErro
         .after_help(AFTER)
         .disable_help_subcommand(true)
         .subcommand_negates_reqs(true)
-        .arg(files(alloc))?
-        .arg(format)?
-        .arg(only)?
-        .arg(all)?
-        .arg(settled)?
-        .arg(no_precedence)?
-        .arg(table)?
-        .arg(start)?
-        .arg(expect)?
-        .arg(color)?
-        .arg(quiet)?
-        .subcommand(check)
+}
+
+fn command<'a>(alloc: Global, version: &'a str) -> Result<Command<'a>, AllocError> {
+    let command = bare_command(alloc, version).arg(files(alloc))?;
+    let command = with_format(alloc, command)?;
+    let command = with_choices(alloc, command)?;
+    let command = with_parser(alloc, command)?;
+    let command = with_manners(alloc, command)?;
+    command.subcommand(check_command(alloc)?)
 }
 
 // `N` or `N,M`.
@@ -189,7 +228,9 @@ fn perform(
     let mut options = options_of(alloc, mode, matches)?;
     if let Some(text) = matches.get_str("expect") {
         let Some(expected) = expectation_in(text) else {
-            let message = format!(in alloc; "invalid value '{text}' for '--expect <N[,M]>': one number or two, as 3 or 3,1")?;
+            let message = format!(in alloc;
+                "invalid value '{text}' for '--expect <N[,M]>': one number or two, as 3 or 3,1"
+            )?;
             let mut command = command(alloc, version)?;
             let error = command.error(ErrorKind::ValueValidation, message.as_str())?;
             error.print(rt)?;

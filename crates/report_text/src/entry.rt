@@ -132,7 +132,13 @@ fn lines_of(alloc: Global, subject: &Subject, entry: &Entry) -> Result<Vec<Line>
             let words = reduce_label(subject, first, taken == Some(Decision::Reduce(first)));
             push_reduced(alloc, subject, first, (Style::Primary, words), &mut lines)?;
             let words = reduce_label(subject, second, taken == Some(Decision::Reduce(second)));
-            push_reduced(alloc, subject, second, (Style::Secondary, words), &mut lines)?;
+            push_reduced(
+                alloc,
+                subject,
+                second,
+                (Style::Secondary, words),
+                &mut lines,
+            )?;
         }
     }
     Ok(lines)

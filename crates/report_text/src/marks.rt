@@ -25,18 +25,18 @@ fn begin_of(span: Span) -> Span {
 
 /// Where the symbols of a production stand: a part of each line that has some. An action, and an
 /// empty alternative, have one part.
-pub fn marks_of(
-    alloc: Global,
-    subject: &Subject,
-    number: usize,
-) -> Result<Vec<Span>, AllocError> {
+pub fn marks_of(alloc: Global, subject: &Subject, number: usize) -> Result<Vec<Span>, AllocError> {
     let mut marks: Vec<Span> = Vec::new(alloc);
     let Some(production) = subject.production(number) else {
         return Ok(marks);
     };
     if production.right.is_empty() {
         let span = production.span;
-        marks.push(if subject.is_action(number) { span } else { begin_of(span) })?;
+        marks.push(if subject.is_action(number) {
+            span
+        } else {
+            begin_of(span)
+        })?;
         return Ok(marks);
     }
     for place in &production.places {

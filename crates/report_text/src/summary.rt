@@ -19,7 +19,10 @@ pub fn push_counts(out: &mut String, counts: Counts) -> Result<(), AllocError> {
             let end = plural(reductions);
             write!(out, "{reductions} reduce/reduce conflict{end}")
         }
-        _ => write!(out, "{shifts} shift/reduce, {reductions} reduce/reduce conflicts"),
+        _ => write!(
+            out,
+            "{shifts} shift/reduce, {reductions} reduce/reduce conflicts"
+        ),
     }
 }
 

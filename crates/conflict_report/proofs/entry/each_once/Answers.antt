@@ -13,5 +13,5 @@ returns c =
     λ n. (
       (λ h. Contains-permutation sorted numbers n (IsPermutation-sym numbers sorted moved)
           (Contains-from_dedup eqb sorted n (subst (λ l. Contains l n) is h))),
-      (λ h. subst (λ l. Contains l n) (sym is) (Contains-dedup_nat sorted n (Contains-permutation numbers sorted n moved h)))
+      (λ h. subst (λ l. Contains l n) (sym is) (Contains-dedup_nat sorted n (Contains-permutation numbers sorted n moved h))),
     )

@@ -6,7 +6,10 @@ abbrev pub invariant-loop-resolved : goal.invariant-loop-resolved
 invariant-loop-resolved l = record {
   count : vec_len l.spots ≡ l.resolved-index + 1;
   front : conflicts_at (record {
-      production = l.first.conflict.production; other = l.first.conflict.other;
-      resolution = l.first.resolution; spots = l.spots })
-    ≡ take (l.resolved-index + 1) (l.first ∷ l.behind)
+    production = l.first.conflict.production;
+    other = l.first.conflict.other;
+    resolution = l.first.resolution;
+    spots = l.spots;
+  })
+      ≡ take (l.resolved-index + 1) (l.first ∷ l.behind);
 }

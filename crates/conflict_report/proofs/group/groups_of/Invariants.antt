@@ -6,7 +6,7 @@ use Rattle.conflict_report.proofs.group.groups_of.Given as goal
 abbrev pub invariant-loop-at : goal.invariant-loop-at
 invariant-loop-at l = record {
   within : l.at ≤ length l.conflicts;
-  front : flat_map conflicts_at l.groups.items ≡ take l.at l.conflicts
+  front : flat_map conflicts_at l.groups.items ≡ take l.at l.conflicts;
 }
 
 abbrev pub decreases-loop-at : goal.decreases-loop-at

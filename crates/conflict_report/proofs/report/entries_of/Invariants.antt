@@ -6,5 +6,5 @@ use Rattle.conflict_report.proofs.report.entries_of.Given as goal
 abbrev pub invariant-loop-group : goal.invariant-loop-group
 invariant-loop-group l = record {
   groups : map (λ (e : Entry). e.group) l.entries.items ≡ l.yielded;
-  whole : All IsWholeEntry l.entries.items
+  whole : All IsWholeEntry l.entries.items;
 }

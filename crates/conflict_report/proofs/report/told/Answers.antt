@@ -14,5 +14,5 @@ returns-clause-shows c =
     let groups = c.in_ok-groups.groups.items in
     IfOk-weaker c.entries_of.result (λ v. map group_in v.items ≡ groups) (λ v. Shows c.args.conflicts.now v.items)
     (λ v is. subst (IsPermutation c.args.conflicts.now)
-        (ap (flat_map conflicts_at) (sym is) ∙ flat_map-map conflicts_at group_in v.items) c.in_ok-groups.ensures)
+    (ap (flat_map conflicts_at) (sym is) ∙ flat_map-map conflicts_at group_in v.items) c.in_ok-groups.ensures)
     c.entries_of.ensures.groups
