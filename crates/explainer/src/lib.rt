@@ -9,6 +9,7 @@ mod options;
 mod running;
 mod status;
 mod telling;
+mod useless;
 
 pub use expectation::{expected_by, status_by};
 pub use finding::{Found, find};

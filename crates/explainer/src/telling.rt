@@ -1,6 +1,7 @@
 use crate::expectation::{expected_by, status_by};
 use crate::finding::{Found, MOST_STATES, find};
 use crate::lines::{push_check, push_report};
+use crate::useless::useless_precedence;
 use crate::{Format, Mode, Options, Status, Table, VERSION};
 use conflict_report::{Report, Subject};
 use construction::Failure;
@@ -113,6 +114,7 @@ fn tell(
     alloc: Global,
     options: &Options,
     renderer: &Renderer,
+    error_renderer: &Renderer,
     grammar: &Grammar,
     outcome: &mut Outcome,
 ) -> Result<(), AllocError> {
@@ -125,12 +127,13 @@ fn tell(
         options.detail,
     );
     let mut report = match found {
-        Ok(
-            Found {
-                analysis: _,
-                report,
-            },
-        ) => report,
+        Ok(Found { analysis, report }) => {
+            if options.uses_precedence && !options.is_quiet {
+                let warnings = useless_precedence(alloc, grammar, analysis.clashes.as_slice())?;
+                push_diagnostics(&mut outcome.errors, error_renderer, warnings.as_slice())?;
+            }
+            report
+        }
         Err(failure) => {
             outcome.status = Status::Limited;
             return push_failure(&mut outcome.errors, name, &failure);
@@ -191,7 +194,14 @@ pub fn explain(
             if !options.is_quiet {
                 push_diagnostics(&mut outcome.errors, &error_renderer, diagnostics.as_slice())?;
             }
-            tell(alloc, options, &renderer, &grammar, &mut outcome)?;
+            tell(
+                alloc,
+                options,
+                &renderer,
+                &error_renderer,
+                &grammar,
+                &mut outcome,
+            )?;
         }
         None => {
             outcome.status = Status::Unread;
