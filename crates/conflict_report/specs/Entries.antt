@@ -1,5 +1,5 @@
 -- What entries say of the conflicts of their groups.
-use Rattle.std.specs.Prelude.{◌≡◌, ◌↔◌, ℕ, List, map, Contains, IsPermutation}
+use Rattle.std.specs.Prelude.{◌↔◌, ℕ, List, map, Contains, IsPermutation}
 use Rattle.std.specs.List.{flat_map}
 use Rattle.std.specs.declared.vec.Vec.{Vec}
 use Rattle.std.specs.declared.alloc.Global.{Global}

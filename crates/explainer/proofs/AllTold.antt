@@ -1,5 +1,5 @@
 -- A report of all conflicts, each with how it comes out, tells each conflict of the grammar.
-use Rattle.std.proofs.Common.{ℕ, Bool, List, [], ◌∷◌, ◌⊎◌, inl, inr, map, filter, Contains, refl, IsPermutation, arith}
+use Rattle.std.proofs.Common.{ℕ, Bool, List, [], ◌∷◌, ◌⊎◌, inl, inr, Contains, refl, arith}
 use Rattle.std.specs.List.{flat_map}
 use Rattle.std.proofs.lemmas.List.Elements.{Contains-append_left, Contains-append_right, Contains-append_cases}
 use Rattle.std.proofs.lemmas.List.Sorted.{Contains-permutation}

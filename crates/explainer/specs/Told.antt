@@ -10,7 +10,6 @@ use Rattle.automaton.specs.declared.conflict.Other.{Other}
 use Rattle.automaton.specs.declared.conflict.Other.TheVariants.{Shift, Reduce}
 use Rattle.automaton.specs.declared.resolution.Resolution.{Resolution}
 use Rattle.automaton.specs.declared.resolution.Resolution.TheVariants.{Open, ShiftKept, ReductionKept, NeitherKept, ShiftGone, ReductionGone}
-use Rattle.automaton.specs.declared.resolution.Resolved.{Resolved}
 use Rattle.automaton.specs.States.{walk}
 use Rattle.automaton.specs.Valid.{IsShiftReduce, IsReduceReduce}
 use Rattle.automaton.specs.Resolutions.{resolved_in}

@@ -1,4 +1,4 @@
-use Rattle.std.proofs.Common.{◌≡◌, ◌++◌, map, All}
+use Rattle.std.proofs.Common.{◌≡◌, map, All}
 use Rattle.conflict_report.specs.declared.entry.Entry.{Entry}
 use Rattle.conflict_report.specs.Entries.{IsWholeEntry}
 use Rattle.conflict_report.proofs.report.entries_of.Given as goal
