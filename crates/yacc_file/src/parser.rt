@@ -525,10 +525,8 @@ impl Parser {
                 TokenKind::Directive(_) => {
                     let _ = self.next_declared();
                 }
-                TokenKind::Reference
-                | TokenKind::Tag
-                | TokenKind::Equals
-                | TokenKind::Prologue => {}
+                TokenKind::Reference | TokenKind::Tag | TokenKind::Equals | TokenKind::Prologue =>
+                    {}
                 _ => {
                     if !was_wrong {
                         self.unexpected(word, "this cannot stand in a rule", "")?;
@@ -542,7 +540,11 @@ impl Parser {
             && !items.is_empty()
         {
             let message = "`%empty` stands in an alternative that has symbols";
-            self.error(place, message, "write `|` between them, or leave `%empty` out")?;
+            self.error(
+                place,
+                message,
+                "write `|` between them, or leave `%empty` out",
+            )?;
         }
         Ok(Alternative {
             items,
@@ -636,9 +638,7 @@ impl Parser {
     {
         let message = match word.kind {
             TokenKind::Name => "no `:` follows this name, so that it begins no rule",
-            TokenKind::Character | TokenKind::Text
-                if self.kind_at(0) == Some(TokenKind::Colon) =>
-            {
+            TokenKind::Character | TokenKind::Text if self.kind_at(0) == Some(TokenKind::Colon) => {
                 "the left side of a rule is a name, and this is a token"
             }
             _ => "a rule is expected here: a name and `:`",

@@ -23,13 +23,17 @@ fn check_productive(
         if set(known.as_mut_slice(), n) {
             let name = file.text(rule.left);
             let is_start = rule.left.id == table.start;
-            let message = format!(in alloc; "`{name}` derives no text: none of its alternatives comes to an end")?;
+            let message = format!(in alloc;
+                "`{name}` derives no text: none of its alternatives comes to an end"
+            )?;
             let diagnostic = if is_start {
                 Diagnostic::error(rule.left.span, message)
             } else {
                 Diagnostic::warning(rule.left.span, message)
             };
-            let help = format!(in alloc; "give it an alternative without `{name}`, and without other rules that lead back")?;
+            let help = format!(in alloc;
+                "give it an alternative without `{name}`, and without other rules that lead back"
+            )?;
             reports.push(diagnostic.with_help(help))?;
         }
     }
@@ -50,7 +54,9 @@ fn check_reachable(
         };
         if set(known.as_mut_slice(), n) {
             let name = file.text(rule.left);
-            let message = format!(in alloc; "`{name}` is out of reach: no rule that the start leads to has it")?;
+            let message = format!(in alloc;
+                "`{name}` is out of reach: no rule that the start leads to has it"
+            )?;
             reports.push(Diagnostic::warning(rule.left.span, message))?;
         }
     }
@@ -171,7 +177,10 @@ fn say_repeat(
     repeat: Repeat,
     reports: &mut Reports,
 ) -> Result<(), AllocError> {
-    let Some(second) = repeat.second.and_then(|index| grammar.productions.get(index)) else {
+    let Some(second) = repeat
+        .second
+        .and_then(|index| grammar.productions.get(index))
+    else {
         return Ok(());
     };
     let Some(first) = grammar.productions.get(repeat.first) else {
@@ -210,7 +219,9 @@ fn check_typed(
     for name in &file.typed {
         if table.entry(name.id).is_none() {
             let text = file.text(*name);
-            let message = format!(in alloc; "`{text}` is given a type, and is neither a token nor the name of a rule")?;
+            let message = format!(in alloc;
+                "`{text}` is given a type, and is neither a token nor the name of a rule"
+            )?;
             reports.push(Diagnostic::warning(name.span, message))?;
         }
     }

@@ -32,7 +32,10 @@ fn is_literal(text: &str) -> bool {
 
 /// Whether a name of a file is one of a symbol. Those of directives, numbers and C code are not.
 pub fn is_symbol(text: &str) -> bool {
-    !matches!(text.as_bytes().first(), Some(b'%' | b'{' | b'$' | b'0'..=b'9') | None)
+    !matches!(
+        text.as_bytes().first(),
+        Some(b'%' | b'{' | b'$' | b'0'..=b'9') | None
+    )
 }
 
 fn span_at(spans: &[Option<Span>], id: usize) -> Option<Span> {
@@ -70,8 +73,12 @@ impl Definer {
     }
 
     /// Adds a mistake, and the place that it has to do with, if there is one.
-    pub fn say(&mut self, diagnostic: Diagnostic, other: Option<Span>, what: &str)
-        -> Result<(), AllocError>
+    pub fn say(
+        &mut self,
+        diagnostic: Diagnostic,
+        other: Option<Span>,
+        what: &str,
+    ) -> Result<(), AllocError>
         ensures { self.new.table ≡ self.old.table }
     {
         match other {
@@ -146,9 +153,15 @@ impl Definer {
             Some(Symbol::Terminal(_)) => Ok(()),
             Some(Symbol::Nonterminal(_)) => {
                 let text = file.text(name);
-                let message = format!(in self.alloc; "`{text}` is declared as a token, and has a rule")?;
+                let message = format!(in self.alloc;
+                    "`{text}` is declared as a token, and has a rule"
+                )?;
                 let rule = span_at(self.defined.as_slice(), name.id);
-                self.say(Diagnostic::error(name.span, message), rule, "its rule is here")
+                self.say(
+                    Diagnostic::error(name.span, message),
+                    rule,
+                    "its rule is here",
+                )
             }
         }
     }
@@ -164,7 +177,11 @@ impl Definer {
             }
             let text = file.text(name);
             let message = format!(in self.alloc; "the token `{text}` is declared more than once")?;
-            return self.say(Diagnostic::warning(name.span, message), first, "the first is here");
+            return self.say(
+                Diagnostic::warning(name.span, message),
+                first,
+                "the first is here",
+            );
         }
         self.declare(file, name)
     }
@@ -184,7 +201,11 @@ impl Definer {
                 let text = file.text(alias.text);
                 let first = span_at(self.defined.as_slice(), alias.text.id);
                 let message = format!(in self.alloc; "{text} stands for a token already")?;
-                self.say(Diagnostic::error(alias.text.span, message), first, "the first is here")
+                self.say(
+                    Diagnostic::error(alias.text.span, message),
+                    first,
+                    "the first is here",
+                )
             }
             _ => Ok(()),
         }
@@ -221,7 +242,11 @@ impl Definer {
         if first.is_some() {
             let text = file.text(name);
             let message = format!(in self.alloc; "`{text}` is given a precedence more than once")?;
-            return self.say(Diagnostic::error(name.span, message), first, "the first is here");
+            return self.say(
+                Diagnostic::error(name.span, message),
+                first,
+                "the first is here",
+            );
         }
         note_place(self.leveled.as_mut_slice(), name);
         Ok(())
@@ -302,7 +327,9 @@ impl Definer {
         if !is_literal(text) {
             let otherwise = "declare it by `%token`, or write a rule for it";
             let help = self.help_for(file, text, otherwise)?;
-            let message = format!(in self.alloc; "`{text}` is neither a token nor the name of a rule")?;
+            let message = format!(in self.alloc;
+                "`{text}` is neither a token nor the name of a rule"
+            )?;
             self.reports
                 .push(Diagnostic::error(name.span, message).with_help(help))?;
         } else if text.as_bytes().first() == Some(&b'"') {
@@ -321,7 +348,8 @@ impl Definer {
         let text = file.text(name);
         match self.table.entry(name.id) {
             None => {
-                let otherwise = "give it a precedence by `%left`, `%right`, `%nonassoc` or `%precedence`";
+                let otherwise =
+                    "give it a precedence by `%left`, `%right`, `%nonassoc` or `%precedence`";
                 let help = self.help_for(file, text, otherwise)?;
                 let message = format!(in self.alloc;
                     "`%prec` names `{text}`, which is declared nowhere, and so has no precedence"
@@ -334,8 +362,14 @@ impl Definer {
             Some(Symbol::Terminal(_)) => Ok(()),
             Some(Symbol::Nonterminal(_)) => {
                 let rule = span_at(self.defined.as_slice(), name.id);
-                let message = format!(in self.alloc; "`%prec` takes a token, and `{text}` is the name of a rule")?;
-                self.say(Diagnostic::error(name.span, message), rule, "its rule is here")
+                let message = format!(in self.alloc;
+                    "`%prec` takes a token, and `{text}` is the name of a rule"
+                )?;
+                self.say(
+                    Diagnostic::error(name.span, message),
+                    rule,
+                    "its rule is here",
+                )
             }
         }
     }

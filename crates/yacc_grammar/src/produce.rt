@@ -15,7 +15,7 @@ pub fn add_accept(alloc: Global, table: &mut Table, start: usize) -> Result<(), 
     requires { start < vec_len table.old.grammar.nonterminals }
     ensures ok { OnOk result (forms_of table.new.grammar.productions.items
         ≡ forms_of table.old.grammar.productions.items
-            ++ (Nonterminal 0 ∷ Nonterminal start ∷ Terminal 0 ∷ []) ∷ []) }
+        ++ (Nonterminal 0 ∷ Nonterminal start ∷ Terminal 0 ∷ []) ∷ []) }
     ensures symbols { table.new.symbols ≡ table.old.symbols }
 {
     let right = vec![in alloc; Symbol::Nonterminal(start), Symbol::Terminal(END)]?;
@@ -48,7 +48,7 @@ fn add_alternative(
     requires { left < vec_len table.old.grammar.nonterminals }
     ensures ok { OnOk result (forms_of table.new.grammar.productions.items
         ≡ forms_of table.old.grammar.productions.items
-            ++ (Nonterminal left ∷ right_of table.old.symbols.items alternative.now) ∷ []) }
+        ++ (Nonterminal left ∷ right_of table.old.symbols.items alternative.now) ∷ []) }
     ensures symbols { table.new.symbols ≡ table.old.symbols }
     ensures nonterminals { table.new.grammar.nonterminals ≡ table.old.grammar.nonterminals }
 {
@@ -75,7 +75,7 @@ fn add_alternatives(
     requires { left < vec_len table.old.grammar.nonterminals }
     ensures ok { OnOk result (forms_of table.new.grammar.productions.items
         ≡ forms_of table.old.grammar.productions.items
-            ++ forms_under table.old.symbols.items alternatives.now (Nonterminal left)) }
+        ++ forms_under table.old.symbols.items alternatives.now (Nonterminal left)) }
     ensures symbols { table.new.symbols ≡ table.old.symbols }
 {
     for alternative in alternatives {
@@ -88,7 +88,7 @@ fn add_alternatives(
 fn add_rule(alloc: Global, table: &mut Table, file: &File, rule: &Rule) -> Result<(), AllocError>
     ensures ok { OnOk result (forms_of table.new.grammar.productions.items
         ≡ forms_of table.old.grammar.productions.items
-            ++ rule_forms table.old.symbols.items rule.now) }
+        ++ rule_forms table.old.symbols.items rule.now) }
     ensures symbols { table.new.symbols ≡ table.old.symbols }
 {
     match table.symbol(rule.left.id) {
@@ -104,7 +104,7 @@ fn add_rule(alloc: Global, table: &mut Table, file: &File, rule: &Rule) -> Resul
 pub fn add_rules(alloc: Global, table: &mut Table, file: &File) -> Result<(), AllocError>
     ensures ok { OnOk result (forms_of table.new.grammar.productions.items
         ≡ forms_of table.old.grammar.productions.items
-            ++ forms_of_rules table.old.symbols.items file.now.rules.items) }
+        ++ forms_of_rules table.old.symbols.items file.now.rules.items) }
     ensures symbols { table.new.symbols ≡ table.old.symbols }
 {
     for rule in &file.rules {
@@ -117,7 +117,7 @@ pub fn add_rules(alloc: Global, table: &mut Table, file: &File) -> Result<(), Al
 fn add_action(alloc: Global, table: &mut Table, item: Item) -> Result<(), AllocError>
     ensures ok { OnOk result (forms_of table.new.grammar.productions.items
         ≡ forms_of table.old.grammar.productions.items
-            ++ action_forms table.old.symbols.items item) }
+        ++ action_forms table.old.symbols.items item) }
     ensures symbols { table.new.symbols ≡ table.old.symbols }
 {
     match table.symbol(item.name.id) {
@@ -136,7 +136,7 @@ fn add_action(alloc: Global, table: &mut Table, item: Item) -> Result<(), AllocE
 pub fn add_actions(alloc: Global, table: &mut Table, items: &[Item]) -> Result<(), AllocError>
     ensures ok { OnOk result (forms_of table.new.grammar.productions.items
         ≡ forms_of table.old.grammar.productions.items
-            ++ forms_of_actions table.old.symbols.items items.now) }
+        ++ forms_of_actions table.old.symbols.items items.now) }
     ensures symbols { table.new.symbols ≡ table.old.symbols }
 {
     for item in items {

@@ -73,11 +73,7 @@ impl Lists {
 
 // Adds a production to the lists of the nonterminals on its right, once for each place. Returns how
 // many places there are.
-fn add_uses(
-    lists: &mut Lists,
-    production: &Production,
-    index: usize,
-) -> Result<usize, AllocError> {
+fn add_uses(lists: &mut Lists, production: &Production, index: usize) -> Result<usize, AllocError> {
     let mut places = 0usize;
     for symbol in &production.right {
         if let Symbol::Nonterminal(n) = *symbol {

@@ -29,9 +29,7 @@ pub struct Resolution {
 
 /// Whether any of the mistakes is an error.
 pub fn has_error(diagnostics: &[Diagnostic]) -> bool {
-    diagnostics
-        .iter()
-        .any(|diagnostic| diagnostic.is_error())
+    diagnostics.iter().any(|diagnostic| diagnostic.is_error())
 }
 
 // What all names of a file stand for.
@@ -42,7 +40,9 @@ fn define(alloc: Global, file: &File) -> Result<Definer, AllocError> {
     definer.tokens(file)?;
     definer.levels(file)?;
     definer.used(file)?;
-    definer.table.set_expected(file.expected, file.expected_reductions);
+    definer
+        .table
+        .set_expected(file.expected, file.expected_reductions);
     Ok(definer)
 }
 
@@ -104,11 +104,7 @@ fn checked(
 /// The grammar of a file, if the file has no errors: its productions are the alternatives in the
 /// order of the file, and each name in them has its symbol. It begins with the rule that is asked
 /// for, or else with the one that `%start` names, or else with the first.
-pub fn grammar_of(
-    alloc: Global,
-    file: &File,
-    start: Option<&str>,
-) -> Result<Resolution, AllocError>
+pub fn grammar_of(alloc: Global, file: &File, start: Option<&str>) -> Result<Resolution, AllocError>
     ensures grammar { IfOk result (λ r. ForSome r.table
         (λ t. IsGrammarOf file.now t.start t.symbols.items t.grammar)) }
     ensures start { IsNone start.entry

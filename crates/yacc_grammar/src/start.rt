@@ -76,12 +76,16 @@ impl Definer {
         match self.table.entry(name.id) {
             Some(Symbol::Nonterminal(_)) => return Ok(Start::Found(name)),
             Some(Symbol::Terminal(_)) => {
-                let message = format!(in self.alloc; "`{text}` is to be the start, and is a token")?;
+                let message = format!(in self.alloc;
+                    "`{text}` is to be the start, and is a token"
+                )?;
                 let help = "name a rule behind `%start`";
                 self.reports.error(name.span, message.as_str(), help)?;
             }
             None => {
-                let message = format!(in self.alloc; "`{text}` is to be the start, and has no rule")?;
+                let message = format!(in self.alloc;
+                    "`{text}` is to be the start, and has no rule"
+                )?;
                 let mut diagnostic = Diagnostic::error(name.span, message);
                 if let Some(other) = self.rule_meant(file, text)? {
                     diagnostic.help = Some(format!(in self.alloc; "did you mean `{other}`?")?);
@@ -102,7 +106,8 @@ impl Definer {
         }
         if let Some(mark) = file.rules_mark {
             let help = "write a rule, as in `list : ITEM | list ITEM ;`";
-            self.reports.error(mark, "no rule stands behind this `%%`", help)?;
+            self.reports
+                .error(mark, "no rule stands behind this `%%`", help)?;
         }
         Ok(Start::Missing)
     }
@@ -117,7 +122,11 @@ impl Definer {
         if let Some(name) = file.starts.get(1) {
             let message = String::from_str(self.alloc, "the start is given more than once")?;
             let first = declared.map(|first| first.span);
-            self.say(Diagnostic::error(name.span, message), first, "the first is here")?;
+            self.say(
+                Diagnostic::error(name.span, message),
+                first,
+                "the first is here",
+            )?;
         }
         match (chosen, declared) {
             (Some(text), _) => self.chosen_start(file, text),

@@ -8,7 +8,7 @@ pub loop-item-preserved : goal.loop-item-preserved
 loop-item-preserved c =
     let P : Item → Type 0 = λ x. ItemIsNamed c.args.file.now c.args.table.now.symbols.items c.args.witness.now.owners.items c.args.table.now.grammar x in
     all_more P c.args.alternative.now.items.items c.deref-item-items.result.now c.loop-item.item-index c.item-item.result
-        c.deref-item-items.ensures.value c.loop-item-test.true c.item-item.is c.loop-item.invariant (c.item_is_named.ensures (search rules))
+    c.deref-item-items.ensures.value c.loop-item-test.true c.item-item.is c.loop-item.invariant (c.item_is_named.ensures (search rules))
 
 pub returns : goal.returns
 returns c _ =

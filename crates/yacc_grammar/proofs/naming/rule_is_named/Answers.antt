@@ -8,7 +8,7 @@ pub loop-alternative-preserved : goal.loop-alternative-preserved
 loop-alternative-preserved c =
     let P : Alternative → Type 0 = λ x. AlternativeIsNamed c.args.file.now c.args.table.now.symbols.items c.args.witness.now.owners.items c.args.table.now.grammar x in
     all_more P c.args.rule.now.alternatives.items c.deref-alternative-items.result.now c.loop-alternative.alternative-index c.alternative-item.result
-        c.deref-alternative-items.ensures.value c.loop-alternative-test.true c.alternative-item.is c.loop-alternative.invariant (c.alternative_is_named.ensures (search rules))
+    c.deref-alternative-items.ensures.value c.loop-alternative-test.true c.alternative-item.is c.loop-alternative.invariant (c.alternative_is_named.ensures (search rules))
 
 pub returns-then-is_named : goal.returns-then-is_named
 returns-then-is_named c h =
