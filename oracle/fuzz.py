@@ -5,7 +5,7 @@ The files are those of FOLDER (oracle/real.sh fetches them), tables/*.y and tabl
 doubled, exchanged and changed, lines moved, words exchanged, and pieces of other grammars put in. File number I of
 seed S is always the same. Many files are given to one process; what fails there is tried again by itself.
 
-A finding is: an end by a signal; a status outside 0 to 4; more than --seconds for one file; output on standard
+A finding is: an end by a signal; a status outside 0 to 4; more than --seconds of processor time for one file; output on standard
 output for a file with errors; status 2 without a line `file:line:column: error:`; an error with another status.
 Each finding is kept as KEEP/SEED_INDEX.y, with its arguments, and printed. The last line is `N files, M findings`.
 
@@ -22,6 +22,7 @@ import random
 import re
 import resource
 import shutil
+import signal
 import subprocess
 import sys
 import tempfile
@@ -132,12 +133,17 @@ def damage(dice, text, others):
     if kind == 8 and dice.randrange(4) == 0:
         return text[: dice.randrange(len(text) + 1)]
     # the words of a grammar: one for another, one gone, one twice; such files are often read, and built
-    words = list(NAME.finditer(text))
-    if not words:
+    word = word_near(dice, text)
+    if not word:
         return text
-    word = dice.choice(words)
-    new = dice.choice((b"", dice.choice(words).group(), dice.choice(words).group(), word.group() + b" " + word.group(), b"| " + word.group()))
+    other = word_near(dice, text).group()
+    new = dice.choice((b"", other, other, word.group() + b" " + word.group(), b"| " + word.group()))
     return text[: word.start()] + new + text[word.end() :]
+
+
+def word_near(dice, text):
+    """A word behind some place, or the first."""
+    return NAME.search(text, dice.randrange(len(text) + 1)) or NAME.search(text)
 
 
 def damaged(seed, index, texts, shorts):
@@ -152,19 +158,29 @@ def damaged(seed, index, texts, shorts):
 # ---- runs
 
 
-def limits():
-    resource.setrlimit(resource.RLIMIT_AS, (4 << 30, 4 << 30))
-    resource.setrlimit(resource.RLIMIT_CORE, (0, 0))
+def processor_seconds():
+    usage = resource.getrusage(resource.RUSAGE_CHILDREN)
+    return usage.ru_utime + usage.ru_stime
 
 
 def run(program, mode, paths, folder, seconds):
-    """Status (None: out of time), standard output, standard error."""
-    begin = time.monotonic()
+    """Status (None: out of time), standard output, standard error, processor seconds."""
+
+    def limit():
+        most = int(seconds) + 1
+        resource.setrlimit(resource.RLIMIT_CPU, (most, most + 1))
+        resource.setrlimit(resource.RLIMIT_AS, (4 << 30, 4 << 30))
+        resource.setrlimit(resource.RLIMIT_CORE, (0, 0))
+
+    begin = processor_seconds()
     try:
-        done = subprocess.run([program, *mode, *paths], cwd=folder, stdin=subprocess.DEVNULL, capture_output=True, timeout=seconds, preexec_fn=limits)
+        # what takes processor time ends by its limit; what waits, on a busy machine too, by this one
+        done = subprocess.run([program, *mode, *paths], cwd=folder, stdin=subprocess.DEVNULL, capture_output=True, timeout=60 + 20 * seconds, preexec_fn=limit)
     except subprocess.TimeoutExpired:
-        return None, b"", b"", time.monotonic() - begin
-    return done.returncode, done.stdout, done.stderr, time.monotonic() - begin
+        return None, b"", b"", processor_seconds() - begin
+    taken = processor_seconds() - begin
+    status = None if done.returncode in (-signal.SIGXCPU, -signal.SIGKILL) and taken > seconds else done.returncode
+    return status, done.stdout, done.stderr, taken
 
 
 ERROR = re.compile(rb"^([^:\n]+):(\d+):(\d+): error: ", re.M)
@@ -248,7 +264,7 @@ def arguments():
     parser.add_argument("--first", type=int, default=0, metavar="INDEX", help="the number of the first file (default: 0)")
     parser.add_argument("--batch", type=int, default=40, help="files given to one process (default: %(default)s)")
     parser.add_argument("--alone", type=int, default=20, metavar="N", help="each N-th process is made for one file alone instead, for its exact answer (default: %(default)s)")
-    parser.add_argument("--seconds", type=float, default=2.0, help="limit for one file (default: %(default)s)")
+    parser.add_argument("--seconds", type=float, default=2.0, help="limit for one file, of processor time (default: %(default)s)")
     parser.add_argument("--keep", default=os.path.join(CACHE, "lihvemur-findings"), help="where findings are kept (default: %(default)s)")
     parser.add_argument("--bison", action="store_true", help="compare with bison, file by file")
     parser.add_argument("--show", type=int, metavar="INDEX", help="write this file of --seed to standard output, and end")
