@@ -3,7 +3,7 @@
 set -euo pipefail
 cd "$(dirname "$0")"
 
-parts=(citations edits ci arrays c tables)
+parts=(citations edits ci arrays c tables command)
 
 usage() {
     cat <<'HELP'
@@ -18,9 +18,10 @@ Runs all tests of the repository, or the parts that are named:
   arrays      no function that classifying reaches has an array above 2,000 words (tests/arrays.py)
   c           every entry of the C header, called through the static library: tests/c/entries.c, and
               the stored sample of what the Rust answers (tests/c/replay.c, tests/sample)
-  tables      the built programs against the stored outputs of tables/ (tests/tables.sh)
+  tables      the library's built programs against the stored outputs of tables/ (tests/tables.sh)
+  command     the command as its users run it: statuses, options, pipes, files that fail (tests/command.sh)
 
-`arrays`, `c` and `tables` use what `ci` left built; by themselves they build what is missing.
+`arrays`, `c`, `tables` and `command` use what `ci` left built; the first three build what is missing.
 All needs the Rattle kit (`rt`), a C compiler (`cc`) and Python 3, on x86-64.
 With `ci` the last line is 'N passed, 0 failed', as `rt ci` counts; without it 'passed: PARTS'.
 Where anything fails it is another line, and the status is not 0.
@@ -31,7 +32,7 @@ chosen=()
 for word in "$@"; do
     case $word in
         -h | --help) usage; exit 0 ;;
-        citations | edits | ci | arrays | c | tables) chosen+=("$word") ;;
+        citations | edits | ci | arrays | c | tables | command) chosen+=("$word") ;;
         *) echo "test.sh: there is no part '$word'" >&2; usage >&2; exit 2 ;;
     esac
 done
@@ -104,6 +105,7 @@ for part in "${chosen[@]}"; do
         arrays) run_arrays ;;
         c) run_c ;;
         tables) tests/tables.sh ;;
+        command) tests/command.sh ;;
     esac
 done
 [ "$whole" = yes ] || echo "passed: ${chosen[*]}"

@@ -1,0 +1,9 @@
+pub mod Runs
+pub mod Steps
+pub mod Parts
+pub mod Fills
+pub mod Inputs
+pub mod Growth
+pub mod Parting
+pub mod Rounds
+pub mod Rows

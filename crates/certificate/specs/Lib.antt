@@ -1,0 +1,5 @@
+pub mod Readings
+pub mod Sentences
+pub mod Sets
+pub mod Shown
+pub mod Brackets

@@ -1,0 +1,6 @@
+%token NUMBER
+%%
+sum
+    : sum '+' part
+    | NUMBER
+    ;

@@ -1,0 +1,17 @@
+// Explains two files as JSON, with what precedence settles.
+#![tactic(auto)]
+
+use explainer::{Format, Options, run};
+use std::alloc::AllocError;
+use std::process::ExitCode;
+
+fn main(rt: HostRuntime) -> Result<ExitCode, AllocError> {
+    let alloc = rt.alloc();
+    let mut options = Options::new(alloc);
+    options.format = Format::Json;
+    options.shows_settled = true;
+    for file in ["dangling_else.y", "expression.y"] {
+        options.files.push(String::from_str(alloc, file)?)?;
+    }
+    Ok(run(&rt, &options))
+}

@@ -1,0 +1,4 @@
+%token A
+%%
+list: A | B ;
+other: C

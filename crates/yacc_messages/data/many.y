@@ -1,0 +1,27 @@
+%%
+list:
+    statement10
+    statement11
+    statement12
+    statement13
+    statement14
+    statement15
+    statement16
+    statement17
+    statement18
+    statement19
+    statement20
+    statement21
+    statement22
+    statement23
+    statement24
+    statement25
+    statement26
+    statement27
+    statement28
+    statement29
+    statement30
+    statement31
+    statement32
+    ;
+statement: ;

@@ -1,0 +1,4 @@
+%token A
+%%
+list: A list | other list ;
+other: ;

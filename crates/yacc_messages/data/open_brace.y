@@ -1,0 +1,5 @@
+%token A
+%%
+list: A { if (x) { y(); }
+    | A A { "}" }
+    ;

@@ -1,0 +1,4 @@
+%token A
+%%
+list: A /* a list
+    | list A ;

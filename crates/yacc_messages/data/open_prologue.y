@@ -1,0 +1,5 @@
+%{
+#include <stdio.h>
+%token A
+%%
+list: A ;

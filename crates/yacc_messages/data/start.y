@@ -1,0 +1,4 @@
+%token A
+%start lst
+%%
+list: A ;

@@ -1,0 +1,5 @@
+%token A
+%%
+list:	A	B
+    | "日本" C
+    | 'é'	D ;
