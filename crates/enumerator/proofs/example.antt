@@ -1,3 +1,4 @@
+pub mod Copied
 pub mod Sizes
 pub mod LabelList
 pub mod Parts

@@ -47,11 +47,14 @@ impl Example {
 }
 
 // Copies words into the buffer at a place. The writers below are given the buffer and a place, and the place behind what was written comes back: a struct of both would say the same behind a `&mut`.
+// By place: of the library's copying the compiler makes a call of `memmove`, which no caller of the archive for C needs to have.
 fn copy(from: &[u16], buffer: &mut [u16], at: usize)
     requires { at + length from.now ≤ length buffer.old }
     ensures { buffer.new ≡ put_at at from.now buffer.old }
 {
-    buffer[at..at + from.len()].copy_from_slice(from);
+    for i in 0..from.len() {
+        buffer[at + i] = from[i];
+    }
 }
 
 // Writes three words into the buffer at a place.
