@@ -3,4 +3,3 @@ pub mod Ids
 pub mod Props
 pub mod Table
 pub mod Words
-pub mod Entering

@@ -47,7 +47,8 @@ no_id Colon n l i = clash false i refl
 no_id Bar n l i = clash false i refl
 no_id Semi n l i = clash false i refl
 
-place_at : (t : List ℕ) (ks : List Known) (from past p : ℕ) (k v : Word) → k ≡ v → p ≡ place_in ks (id_at t v from past) → p ≡ place_in ks (id_at t k from past)
+-- the number of an id by its kind
+pub place_at : (t : List ℕ) (ks : List Known) (from past p : ℕ) (k v : Word) → k ≡ v → p ≡ place_in ks (id_at t v from past) → p ≡ place_in ks (id_at t k from past)
 place_at t ks from past p k v e q = q ∙ sym (ap (λ (j : Word). place_in ks (id_at t j from past)) e)
 
 module _ (t starts pasts ix lefts tokens : List ℕ) (ids : Ids) (ns ts : List Known) (H : Held t starts pasts ix lefts tokens ids ns ts) where

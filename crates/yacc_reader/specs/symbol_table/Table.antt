@@ -6,4 +6,4 @@ use Rattle.yacc_reader.specs.declared.symbol_table.IdTable.{IdTable}
 
 -- the nonterminals ns and the terminals ts
 abbrev pub Holds : IdTable → List Known → List Known → Type 0
-Holds s ns ts = Held s.text.now s.words.starts.now s.words.pasts.now s.words.ix.now s.words.lefts.now s.words.tokens.now s.counts ns ts
+Holds s ns ts = Held s.text.now s.starts.now s.pasts.now s.ix.now s.lefts.now s.tokens.now s.counts ns ts

@@ -21,6 +21,10 @@ pub record SameRoom (w v : Words) : Type 0 where
   pub lefts : length v.lefts.now ≡ length w.lefts.now
   pub tokens : length v.tokens.now ≡ length w.tokens.now
 
+-- both are over the same words lent, so that what is said of those in the end is said of what was lent
+abbrev pub SameWords : Words → Words → Type 0
+SameWords w v = (v.starts.ghost_name ≡ w.starts.ghost_name) × (v.pasts.ghost_name ≡ w.pasts.ghost_name) × (v.ix.ghost_name ≡ w.ix.ghost_name) × (v.lefts.ghost_name ≡ w.lefts.ghost_name) × (v.tokens.ghost_name ≡ w.tokens.ghost_name)
+
 -- the name that stands from a place up to another placed among the first k: its number is one of them; the numbers' words stay
 pub record Places (t : List ℕ) (w : Words) (k from past : ℕ) (v : Words) (r : Placed) : Type 0 where
   pub is : left v.starts.now v.pasts.now v.ix.now r ≡ placing t w.starts.now w.pasts.now w.ix.now k from past
