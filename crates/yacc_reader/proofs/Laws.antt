@@ -18,7 +18,7 @@ use Rattle.table_rewrite.specs.start_production.Started.{started_as, started_in,
 use Rattle.table_rewrite.specs.declared.start_production.Started.{Started}
 use Rattle.table_rewrite.proofs.start_production.Exact.{same_started}
 use Rattle.std.proofs.Common.{Option as Answer, Some, None}
-use Rattle.std.specs.Option.{unwrap_or, IfSome}
+use Rattle.std.specs.Option.{unwrap_or}
 use Rattle.yacc_syntax.specs.lexer.Steps.{found_at}
 use Rattle.yacc_reader.specs.name_errors.Fault.{fault_from}
 use Rattle.yacc_reader.proofs.name_errors.Fault.{misnamed-fault, never}
@@ -141,14 +141,10 @@ module _ (S : Source) (table places : List ℕ) where
   limit_written = refl
 
 -- `misnamed_at`: a text that 21 refuses has a token at fault
-pub fault_inside : (n : ℕ) (r : Answer ℕ) → IfSome r (λ at. at ≤ n) → unwrap_or r 0 ≤ n
-fault_inside n None h = omega arith
-fault_inside n (Some j) h = h
-
-pub fault_told : (l : Layout) (r : Answer ℕ) → found_at r ≡ fault_from (source_in l.pieces) (top false) (placed 0 l.pieces) → misnamed (source_in l.pieces) ≡ true → fault_from (source_in l.pieces) (top false) (placed 0 l.pieces) ≡ some (unwrap_or r 0)
+pub fault_told : (l : Layout) (r : Answer ℕ) (z : ℕ) → found_at r ≡ fault_from (source_in l.pieces) (top false) (placed 0 l.pieces) → misnamed (source_in l.pieces) ≡ true → fault_from (source_in l.pieces) (top false) (placed 0 l.pieces) ≡ some (unwrap_or r z)
 unfolding found_at
-fault_told l None e y = let k = misnamed-fault l y in never k.0 (e ∙ k.1)
-fault_told l (Some j) e y = sym e
+fault_told l None z e y = let k = misnamed-fault l y in never k.0 (e ∙ k.1)
+fault_told l (Some j) z e y = sym e
 
 pub fresh_zeros : (t : List ℕ) → length t ≤ text_limit → (a b c d e : ℕ) → text_limit ≤ a → text_limit ≤ b → bucket_limit + text_limit ≤ c → text_limit ≤ d → byte_limit + text_limit ≤ e → Fresh t (replicate a 0) (replicate b 0) (replicate c 0) (replicate d 0) (replicate e 0)
 fresh_zeros t h a b c d e ha hb hc hd he =

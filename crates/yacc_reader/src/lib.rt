@@ -14,13 +14,13 @@ pub mod productions;
 pub mod symbol_table;
 pub mod symbols;
 
-ghost use Rattle.std.specs.Prelude.{IfSome, true, false, ◌≡◌, ◌≤◌, length};
+ghost use Rattle.std.specs.Prelude.{IfSome, true, false, ◌≡◌, ◌≤◌, [], length};
 ghost use Rattle.std.proofs.Math.Option.{some};
 ghost use Rattle.lr1_base.specs.repr.Reply.{reply_of};
 ghost use Rattle.yacc_syntax.specs.text.Grammar.{Layout, text_limit};
 ghost use Rattle.yacc_syntax.specs.text.Parse.{parse};
 ghost use Rattle.yacc_syntax.specs.text.Forward.{top};
-ghost use Rattle.yacc_syntax.specs.text.Places.{placed};
+ghost use Rattle.yacc_syntax.specs.text.Places.{placed, placed_from};
 ghost use Rattle.yacc_syntax.specs.lexer.Steps.{found_at};
 ghost use Rattle.yacc_syntax.specs.recognizer.Accepted.{is_grammar_text};
 ghost use Rattle.yacc_reader.specs.parsed_file.Outcome.{source_in, misnamed, counted_of, named_of, read_of};
@@ -28,6 +28,7 @@ ghost use Rattle.yacc_reader.specs.name_errors.Fault.{fault_from};
 ghost use Rattle.yacc_reader.specs.Passed.{Passes};
 
 use crate::counts::count;
+use crate::events::TokenIter;
 use crate::limits::check_counts;
 use crate::name_errors::{fault_place, is_misnamed};
 use crate::parsed_file::Reading;
@@ -186,12 +187,27 @@ fn fault_in(text: &[u8]) -> Option<usize>
     fault_place(&symbols)
 }
 
-// Where a text that 21 refuses is at fault: the first byte of the first token that is. A place of the text for any other. (No Option: it is asked of texts that 21 refuses, which all have such a place.)
+// The place behind the last word of a text of the grammar.
+fn words_end(text: &[u8]) -> usize
+    requires { is_grammar_text text.now ≡ true }
+    ensures { (result ≤ length text.now) × (placed_from text.now result ≡ some []) }
+{
+    let mut end: usize = 0;
+    for token in TokenIter::new(text) {
+        end = token.lexeme.past;
+    }
+    end
+}
+
+// Where a text that 21 refuses is at fault: the first byte of the first token that is. For a text that 20 refuses it is 0, for any other the place behind the last word. (No Option: it is asked of texts that 21 refuses, which all have such a place.)
 pub fn misnamed_at(text: &[u8]) -> usize
     ensures { (result ≤ length text.now) × (length text.now ≤ text_limit → (l : Layout) → parse text.now ≡ some l → misnamed (source_in l.pieces) ≡ true → fault_from (source_in l.pieces) (top false) (placed 0 l.pieces) ≡ some result) }
 {
     if is_short(text) && is_grammar(text) {
-        return fault_in(text).unwrap_or(0);
+        return match fault_in(text) {
+            Some(at) => at,
+            None => words_end(text),
+        };
     }
     0
 }

@@ -1,14 +1,17 @@
 use native.Mathlib.Omega.{arith}
 use mathlib.Core.Path.{sym, ◌∙◌}
 use borrow.Author.Tests.{leb-false}
-use Rattle.yacc_reader.proofs.Laws.{outside, fault_inside, fault_told}
+use Rattle.yacc_reader.proofs.Laws.{outside, fault_told}
 use Rattle.yacc_reader.proofs.misnamed_at.Goals as goal
-use Rattle.yacc_reader.proofs.misnamed_at.Goals.{else-is_short-via-then-is_short+else-is_grammar, else-is_short-via-else-is_short}
+use Rattle.yacc_reader.proofs.misnamed_at.Goals.{in-Some, in-None, else-is_short-via-then-is_short+else-is_grammar, else-is_short-via-else-is_short}
 
 pub returns-then-is_grammar : goal.returns-then-is_grammar
 returns-then-is_grammar c =
     let f = c.fault_in.ensures in
-    rw c.unwrap_or.ensures (fault_inside _ _ f.inside, λ h l p y. fault_told l _ (f.first l p) y)
+    elim c.match-fault_in.branch [
+      | in-Some w ↦ (let g = rw w.in-Some.is at f in rw w.result-is (g.inside, λ h l p y. fault_told l _ 0 (g.first l p) y))
+      | in-None w ↦ (let g = rw w.in-None.is at f in rw w.result-is (w.words_end.ensures.0, λ h l p y. fault_told l _ _ (g.first l p) y))
+    ]
 
 pub returns : goal.returns
 returns c = (
