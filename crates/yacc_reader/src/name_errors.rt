@@ -16,6 +16,7 @@ ghost use Rattle.yacc_reader.specs.events.Said.{id_at};
 ghost use Rattle.yacc_reader.specs.symbol_table.Ids.{is_id};
 ghost use Rattle.yacc_reader.specs.symbol_table.Table.{Holds};
 ghost use Rattle.yacc_reader.specs.name_errors.Fault.{faulty, fault_from};
+ghost use Rattle.yacc_reader.specs.name_errors.Parts.{misnamed_by};
 
 use crate::events::{Saying, Token, TokenIter};
 use crate::symbol_table::{IdTable, SymbolTable};
@@ -52,7 +53,8 @@ pub fn fault_place(symbols: &SymbolTable) -> Option<usize>
 
 // 21, of a text whose ids are entered: some token is at fault.
 pub fn is_misnamed(symbols: &SymbolTable) -> bool
-    ensures { (l : Layout) → parse symbols.now.ids.text.now ≡ some l → result ≡ misnamed (source_in l.pieces) }
+    ensures misnamed { (l : Layout) → parse symbols.now.ids.text.now ≡ some l → result ≡ misnamed (source_in l.pieces) }
+    ensures parts { (l : Layout) → parse symbols.now.ids.text.now ≡ some l → result ≡ misnamed_by (source_in l.pieces) symbols.now.ids.text.now symbols.now.ids.lefts.now symbols.now.ids.tokens.now symbols.now.ids.counts.names }
 {
     fault_place(symbols).is_some()
 }

@@ -12,9 +12,9 @@ use Rattle.lr1_base.proofs.repr.Lists.{cases, clash}
 use Rattle.lr1_base.proofs.repr.Tests.{some?-nil, some?-cons, some?-append, some?-below, some?-below_witness}
 use Rattle.yacc_syntax.specs.text.Grammar.{Id, Layout, byte_limit}
 use Rattle.yacc_syntax.specs.text.Parse.{parse}
-use Rattle.yacc_syntax.specs.text.Places.{placed_from}
+use Rattle.yacc_syntax.specs.text.Places.{placed, placed_from}
 use Rattle.yacc_syntax.specs.text.Forward.{top}
-use Rattle.yacc_reader.specs.parsed_file.Events.{Event, lists, opens, defines, uses, shuts}
+use Rattle.yacc_reader.specs.parsed_file.Events.{Event, lists, opens, defines, uses, shuts, events}
 use Rattle.yacc_reader.specs.parsed_file.Source.{Known, is_known, no_id, Use, Alternative, alternative, alternatives_from, Source, source_of}
 use Rattle.yacc_reader.specs.parsed_file.Outcome.{nowhere, undefined_use, named_both_ways, undefined_start, misnamed, source_in}
 use Rattle.yacc_reader.specs.events.Said.{of_said}
@@ -24,7 +24,7 @@ use Rattle.yacc_reader.specs.numbers.Numbers.{place_in}
 use Rattle.yacc_reader.specs.declared.symbol_table.Ids.{Ids}
 use Rattle.yacc_reader.specs.symbol_table.Ids.{name_id, token_id, Held}
 use Rattle.yacc_reader.proofs.symbol_table.Laws.{token_name}
-use Rattle.yacc_reader.specs.name_errors.Parts.{Verdict, judged, verdict_of, lost_of, twice, twice_of}
+use Rattle.yacc_reader.specs.name_errors.Parts.{Verdict, judged, verdict_of, lost_of, twice, twice_of, misnamed_by}
 use Rattle.yacc_reader.proofs.name_errors.Laws.{known_both, none_both, placed_known}
 use Rattle.lr1_base.proofs.laws.Bools.{and-true}
 
@@ -110,6 +110,30 @@ pub lost-first : (t : List ℕ) (l : Layout) → parse t ≡ some l → of_said 
 unfolding source_in source_of lost_of undefined_start
 lost-first t l e = said-whole true (lost_of (source_in l.pieces).nonterminals) t l e
 
-pub misnamed-start : (S : Source) (r : Bool) → false ≡ undefined_use S → false ≡ named_both_ways S → r ≡ undefined_start S → r ≡ misnamed S
-unfolding misnamed
-misnamed-start S r f g e = e ∙ ap (λ (b : Bool). b || undefined_start S) g ∙ ap (λ (b : Bool). b || (named_both_ways S || undefined_start S)) f
+module _ (S : Source) where
+  pub misnamed_use : true ≡ undefined_use S → true ≡ misnamed S
+  unfolding misnamed
+  misnamed_use e = ap (λ (b : Bool). b || (named_both_ways S || undefined_start S)) e
+
+  pub misnamed-both : false ≡ undefined_use S → true ≡ named_both_ways S → true ≡ misnamed S
+  unfolding misnamed
+  misnamed-both f e = ap (λ (b : Bool). b || undefined_start S) e ∙ ap (λ (b : Bool). b || (named_both_ways S || undefined_start S)) f
+
+  pub misnamed-start : (r : Bool) → false ≡ undefined_use S → false ≡ named_both_ways S → r ≡ undefined_start S → r ≡ misnamed S
+  unfolding misnamed
+  misnamed-start r f g e = e ∙ ap (λ (b : Bool). b || undefined_start S) g ∙ ap (λ (b : Bool). b || (named_both_ways S || undefined_start S)) f
+
+  -- 21 by its three parts
+  misnamed-parts : (u b s : Bool) → u ≡ undefined_use S → b ≡ named_both_ways S → s ≡ undefined_start S → misnamed S ≡ (u || (b || s))
+  misnamed-parts true b s f g e = sym (misnamed_use f)
+  misnamed-parts false true s f g e = sym (misnamed-both f g)
+  misnamed-parts false false s f g e = sym (misnamed-start s f g e)
+
+-- `is_misnamed`
+pub uses-first : (t : List ℕ) (l : Layout) → parse t ≡ some l → of_said false (verdict_of (nowhere (source_in l.pieces)) (record { bad = false; body = false })) (top false) (placed_from t 0) ≡ undefined_use (source_in l.pieces)
+unfolding source_in
+uses-first t l e = said-whole false (verdict_of (nowhere (source_in l.pieces)) (record { bad = false; body = false })) t l e ∙ verdict_undefined (events (top false) (placed 0 l.pieces))
+
+pub parts_told : (t starts pasts ix lefts tokens : List ℕ) (ids : Ids) (l : Layout) → parse t ≡ some l → Held t starts pasts ix lefts tokens ids (source_in l.pieces).nonterminals (source_in l.pieces).terminals → misnamed (source_in l.pieces) ≡ misnamed_by (source_in l.pieces) t lefts tokens ids.names
+unfolding misnamed_by
+parts_told t starts pasts ix lefts tokens ids l e H = misnamed-parts (source_in l.pieces) _ _ _ (uses-first t l e) (both_ways t starts pasts ix lefts tokens ids (source_in l.pieces) H) (lost-first t l e)

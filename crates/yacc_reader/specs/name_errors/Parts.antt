@@ -1,9 +1,13 @@
 -- The parts of 21 by themselves, as its laws have them (proofs/name_errors/Parts): the ids of bodies and the START ids from all that is said, and the names by the words of their numbers.
-use Rattle.std.specs.Prelude.{ℕ, ◌+◌, Bool, true, false, ◌&&◌, not, List, [], ◌∷◌, get_or, eqb}
+use Rattle.std.specs.Prelude.{ℕ, ◌+◌, Bool, true, false, ◌&&◌, ◌||◌, not, List, [], ◌∷◌, get_or, eqb}
 use Rattle.lr1_base.specs.repr.Lists.{some?, joined, below}
 use Rattle.yacc_syntax.specs.text.Grammar.{Id, byte_limit}
+use Rattle.yacc_syntax.specs.text.Places.{placed_from}
+use Rattle.yacc_syntax.specs.text.Forward.{top}
 use Rattle.yacc_reader.specs.parsed_file.Events.{Event, lists, opens, defines, uses, shuts}
-use Rattle.yacc_reader.specs.parsed_file.Source.{Known, is_known, start_use}
+use Rattle.yacc_reader.specs.parsed_file.Source.{Known, is_known, start_use, Source}
+use Rattle.yacc_reader.specs.parsed_file.Outcome.{nowhere}
+use Rattle.yacc_reader.specs.events.Said.{of_said}
 use Rattle.yacc_reader.specs.declared.events.Saying.{Saying}
 use Rattle.yacc_reader.specs.declared.events.Saying.TheVariants.{Lists, Opens, Defines, Uses, Shuts, Nothing}
 
@@ -40,3 +44,7 @@ twice lefts tokens j = not (eqb (get_or lefts j 0) 0) && not (eqb (get_or tokens
 
 unfoldable pub twice_of : List ℕ → List ℕ → ℕ → Bool
 twice_of lefts tokens k = some? (twice lefts tokens) (below k)
+
+-- 21 by its parts, of a text with the words of its names: from all that it says, and by the numbers of the first k names
+unfoldable pub misnamed_by : Source → List ℕ → List ℕ → List ℕ → ℕ → Bool
+misnamed_by S t lefts tokens k = of_said false (verdict_of (nowhere S) (record { bad = false; body = false })) (top false) (placed_from t 0) || (twice_of lefts tokens k || of_said true (lost_of S.nonterminals) (top false) (placed_from t 0))
