@@ -1,6 +1,6 @@
 // What a conflict's two sides gather (`shift_examples`, `reduce_examples` of lr1/error/mod.rs; docs/RULES.md, "Classes"): of every example of each listing an outline, of the first the labels too (module outline), in one pass; and one example of a side made again.
 
-mod viewing;
+pub mod viewing;
 
 ghost use Rattle.std.specs.Prelude.{OnOk, OnErr, ◌≡◌, ℕ, ◌<◌, ◌≤◌, true, false, List, [], ◌++◌, length, drop};
 ghost use Rattle.lr1_base.specs.repr.Sizes.{grammar_room, edge_limit, trial_limit, example_limit, example_room};

@@ -22,7 +22,7 @@ module _ (a₀ b₀ : List ℕ) (same : length b₀ ≡ length a₀) (i : ℕ) w
   exchanged_all h = rw (take_all i b₀ (omega arith), drop_of_length-le a₀ h) (append-nil b₀)
 
 -- no tail is listed in words that are 0
-tails_blank : (t zs : List ℕ) → suc (suc (length zs)) ≤ tail_words → TwoTails t (0 ∷ 0 ∷ zs) (0 ∷ 0 ∷ zs) (0 ∷ 0 ∷ zs) (0 ∷ 0 ∷ zs)
+pub tails_blank : (t zs : List ℕ) → suc (suc (length zs)) ≤ tail_words → TwoTails t (0 ∷ 0 ∷ zs) (0 ∷ 0 ∷ zs) (0 ∷ 0 ∷ zs) (0 ∷ 0 ∷ zs)
 tails_blank t zs h = record { few = h; links = refl; others = refl; other_links = refl; usable = usable_blank t zs _; other_usable = usable_blank t zs _ }
 
 pub tails_new : (t : List ℕ) (n : ℕ) → suc (suc n) ≤ tail_words → (rs ls us ms : List ℕ) → (rs ≡ replicate (suc (suc n)) 0) × (ls ≡ replicate (suc (suc n)) 0) → (us ≡ replicate (suc (suc n)) 0) × (ms ≡ replicate (suc (suc n)) 0) → TwoTails t rs ls us ms

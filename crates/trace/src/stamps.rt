@@ -7,7 +7,7 @@ use lr1_base::item::Item;
 use lr1_base::repr::word;
 
 // A byte for each item, in fixed memory, since there is no heap; two to a word, since an array of a byte for each of the 2,176 would have more than 2,000 elements (tests/arrays.py).
-#[derive(Drop)]
+#[derive(Clone, Copy)]
 pub struct Stamps {
     pub words: [u16; Stamps::WORDS],
 }

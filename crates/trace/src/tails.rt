@@ -29,7 +29,7 @@ pub const LIST_WORDS: usize = 2000;
 pub const NO_LIST: usize = 2;
 
 // The slot of the first record: those before it are nonterminals.
-const FIRST_SLOT: usize = NonterminalString::LIMIT;
+pub const FIRST_SLOT: usize = NonterminalString::LIMIT;
 
 // A tail begins so many records into a chain: 128 states cannot have more records of their own each.
 pub const TAIL_AHEAD: usize = 64;
@@ -39,7 +39,7 @@ pub const SHORT_TABLE: usize = 2560;
 
 // A listed tail in N words each.
 // Records and their links in fixed words, since there is no heap. The functions below take them as two slices: of the struct each, and the recursion of `trace_epsilon`, would be generic in N and stand in the program for both lengths; a struct of the two slices would be made anew at each call, as a list is written between two readings of it.
-#[derive(Drop)]
+#[derive(Clone, Copy)]
 pub struct TailList<const N: usize> {
     pub records: [u16; N],
     pub links: [u16; N],

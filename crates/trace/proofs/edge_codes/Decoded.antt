@@ -106,7 +106,7 @@ module _ {g : List ℕ} {n : ℕ} {T : Table} {e : TraceEdge} {c : ℕ} (D : Dec
     unfolding item_in
     words_two k = sym (by_words T (c / 2176) (c % 2176 / 17) (c % 2176 % 17) ne k) ∙ ap edge_words back
 
-  words-zero : c / 2176 ≡ 0 → 0 ∷ get_or g (c % 2176 / 17 * 36) 0 ∷ 0 ∷ 1 ∷ c % 2176 / 17 ∷ c % 2176 % 17 ∷ c % 2176 / 17 ∷ c % 2176 % 17 ∷ [] ≡ edge_words e
+  pub words-zero : c / 2176 ≡ 0 → 0 ∷ get_or g (c % 2176 / 17 * 36) 0 ∷ 0 ∷ 1 ∷ c % 2176 / 17 ∷ c % 2176 % 17 ∷ c % 2176 / 17 ∷ c % 2176 % 17 ∷ [] ≡ edge_words e
   unfolding item_in
   words-zero k = rw owner_is (sym (zero-words T (c % 2176 / 17) (c % 2176 % 17)) ∙ ap edge_words (rw k at back))
 

@@ -37,11 +37,11 @@ module _ (g : List ℕ) (n p q a b : ℕ) (hp : p < n) (hq : q < n) (ea : a ≡ 
       ∙ rw (packed_owner g n p hp, packed_owner g n q hq, ← ea, ← eb, eq-eqb a b e)
 
 -- the first that is equal
-least-found : (ps : List Production) (p q : ℕ) → q < length ps → is_same_production ps q p ≡ true → ((j : ℕ) → j < q → is_same_production ps j p ≡ false) → q ≡ least_alike ps p
+pub least-found : (ps : List Production) (p q : ℕ) → q < length ps → is_same_production ps q p ≡ true → ((j : ℕ) → j < q → is_same_production ps j p ≡ false) → q ≡ least_alike ps p
 unfolding least_alike or_zero
 least-found ps p q h e none = sym (ap or_zero (first?-below_intro (λ r. is_same_production ps r p) (length ps) q h e none))
 
-least_itself : (ps : List Production) (p : ℕ) → p < length ps → ((j : ℕ) → j < p → is_same_production ps j p ≡ false) → p ≡ least_alike ps p
+pub least_itself : (ps : List Production) (p : ℕ) → p < length ps → ((j : ℕ) → j < p → is_same_production ps j p ≡ false) → p ≡ least_alike ps p
 least_itself ps p h none = least-found ps p p h (same_refl ps p) none
 
 -- the first before p that is equal, else p
@@ -51,7 +51,7 @@ pub least_of : (ps : List Production) (p : ℕ) (r : Option ℕ) → p < length 
 least_of ps p None h m = (least_itself ps p h (λ j l. m j (omega arith) l), omega arith)
 least_of ps p (Some q) h m = (least-found ps p q (omega (arith, m.1)) m.2 (λ j l. m.3 j (omega arith) l), omega (arith, m.1))
 
-below_next : (P : ℕ → Type 0) (q : ℕ) → ((j : ℕ) → j < q → P j) → P q → (j : ℕ) → j < q + 1 → P j
+pub below_next : (P : ℕ → Type 0) (q : ℕ) → ((j : ℕ) → j < q → P j) → P q → (j : ℕ) → j < q + 1 → P j
 below_next P q h e j l =
     cases (eqb j q)
     (λ b. rw (eqb-true j q b) e)
