@@ -304,7 +304,7 @@ fn open_view(item: TableItem, words: &mut [u16], lists: &mut ViewLists) -> Resul
         least: given.least,
     };
     trace_codes(tracer, given.ends, item.traced, words)?;
-    view_codes(given.grammar, words, item.traced.item, lists);
+    view_codes(given.grammar.words, words, item.traced.item, lists);
     Ok(())
 }
 

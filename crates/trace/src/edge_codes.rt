@@ -242,13 +242,18 @@ fn cursor_node(grammar: Grammar, item: Item) -> Node
     Node::nonterminal(number as usize)
 }
 
-// The edge of a word.
-pub fn edge_of(grammar: Grammar, code: usize) -> TraceEdge
-    requires { (T : meaning-of.Table) × ((e : graph-of.TraceEdge) × Decodes grammar.words.now grammar.productions T e code) }
-    ensures { SmallEdge result × ((T : meaning-of.Table) (e : graph-of.TraceEdge) → Decodes grammar.entry.words.now grammar.entry.productions T e code → value_words result ≡ edge_words e) }
+// The edge of a word. By the packed words, here and at all edges: how many productions stand in them the proof alone knows.
+pub fn edge_of(grammar: &[u16], code: usize) -> TraceEdge
+    requires { (n : ℕ) × ((T : meaning-of.Table) × ((e : graph-of.TraceEdge) × Decodes grammar.now n T e code)) }
+    ensures { SmallEdge result × ((n : ℕ) (T : meaning-of.Table) (e : graph-of.TraceEdge) → Decodes grammar.now n T e code → value_words result ≡ edge_words e) }
 {
     let coded = EdgeCode::of(code);
     let item = coded.item;
+    // The productions up to that of the edge.
+    let grammar = Grammar {
+        words: grammar,
+        productions: item.production + 1,
+    };
     let owner = Node::nonterminal(grammar.owner(item.production));
     let (source, target) = match coded.kind {
         EdgeKind::IntoItem => (owner, Node::item(item)),
@@ -264,10 +269,10 @@ pub fn edge_of(grammar: Grammar, code: usize) -> TraceEdge
 
 // The words of all edges, in front of the graph; what stands behind them is as it was.
 // By place, since the place is the edge's number in the graph; the count is set with each edge, so that the graph is whole after each.
-pub fn write_codes(grammar: Grammar, words: &[u16], graph: &mut [u16])
-    requires carried { (T : meaning-of.Table) × ((es : List graph-of.TraceEdge) × Carried grammar.words.now grammar.productions words.now T es) }
+pub fn write_codes(grammar: &[u16], words: &[u16], graph: &mut [u16])
+    requires carried { (n : ℕ) × ((T : meaning-of.Table) × ((es : List graph-of.TraceEdge) × Carried grammar.now n words.now T es)) }
     requires room { graph_room ≤ length graph.old }
-    ensures { (T : meaning-of.Table) (es : List graph-of.TraceEdge) → Carried grammar.entry.words.now grammar.entry.productions words.now T es → graph.new ≡ graph_words es ++ drop (edge_place (length es)) graph.old }
+    ensures { (n : ℕ) (T : meaning-of.Table) (es : List graph-of.TraceEdge) → Carried grammar.now n words.now T es → graph.new ≡ graph_words es ++ drop (edge_place (length es)) graph.old }
 {
     graph[0] = 0;
     let count = word(words, 0);

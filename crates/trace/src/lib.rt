@@ -159,7 +159,7 @@ pub fn build(
     let mut words = [0u16; EdgeCodes::WORDS];
     let ends = ends_for(tracer, traced.action);
     trace_codes(tracer, &ends, traced, &mut words)?;
-    write_codes(grammar, &words, graph);
+    write_codes(grammar.words, &words, graph);
     Ok(())
 }
 

@@ -1,9 +1,9 @@
 -- An edge from its word.
-use Rattle.std.proofs.Common.{◌≡◌, ℕ, zero, suc, ◌*◌, ◌/◌, ◌%◌, ◌<◌, true, ltb, List, [], ◌∷◌, length, get_or, drop, sym, refl, ap, ◌∙◌, true≢false, arith, ltb-false, ltb-true, eqb-true}
+use Rattle.std.proofs.Common.{◌≡◌, ℕ, zero, suc, ◌+◌, ◌*◌, ◌/◌, ◌%◌, ◌<◌, ◌≤◌, true, ltb, List, [], ◌∷◌, length, get_or, drop, sym, refl, ap, ◌∙◌, true≢false, arith, ltb-false, ltb-true, eqb-true}
 use mathlib.Core.Option.{some}
 use Rattle.lr1_base.specs.repr.Meaning.{Symbol, Item, Production, no_production, Table, ItemFits, production_at}
 use Rattle.lr1_base.specs.repr.Listed.{symbol_of_kind, listed}
-use Rattle.lr1_base.specs.repr.Packed.{productions_in, production_in, symbol_words}
+use Rattle.lr1_base.specs.repr.Packed.{Packed, productions_in, production_in, symbol_words}
 use Rattle.lr1_base.proofs.repr.Lists.{cases, get_d_map-below, length-map-below}
 use Rattle.lr1_base.specs.item.Items.{first, symbol_sets, is_nonterminal, shifts_nonterminal}
 use Rattle.lr1_base.proofs.item.Items.{shifts_past}
@@ -119,13 +119,31 @@ shifted_number xs rest i kind number n s d e h = go kind (rw (d, ← e) at h)
     go zero t = eqb-true number n t
     go (suc k) t = absurd (true≢false (sym t))
 
+-- the words of productions are those of fewer too
+pub packed_fewer : (g : List ℕ) (n m : ℕ) → m ≤ n → Packed g n → Packed g m
+packed_fewer g n m h P = record {
+  long = P.long;
+  few = let f = P.few in omega arith;
+  owner = λ p l. P.owner p (omega arith);
+  short = λ p l. P.short p (omega arith);
+  fits = λ p l. P.fits p (omega arith);
+}
+
+-- an edge's production p, and the words of those up to it
+module _ (g : List ℕ) (c p : ℕ) (D : (n : ℕ) × ((T : Table) × ((e : TraceEdge) × Decodes g n T e c))) (ep : p ≡ c % 2176 / 17) where
+  pub production_inside : p < D.0
+  production_inside = rw ep (inside D.1.1.1)
+
+  pub packed_upto : Packed g (p + 1)
+  packed_upto = let i = production_inside in packed_fewer g D.0 (p + 1) (omega arith) D.1.1.1.packed
+
 -- as the code has it: the item at index x of production p, w the number of its nonterminal
-module _ (g : List ℕ) (n c p x w : ℕ) (D : (T : Table) × ((e : TraceEdge) × Decodes g n T e c)) (ep : p ≡ c % 2176 / 17) (ex : x ≡ c % 2176 % 17) (ew : w ≡ get_or g (p * 36) 0) where
+module _ (g : List ℕ) (c p x w : ℕ) (D : (n : ℕ) × ((T : Table) × ((e : TraceEdge) × Decodes g n T e c))) (ep : p ≡ c % 2176 / 17) (ex : x ≡ c % 2176 % 17) (ew : w ≡ get_or g (p * 36) 0) where
   owner_small : w < 128
-  owner_small = let d = D.1.1 in let l = d.packed.owner (c % 2176 / 17) (inside d) in rw (ew, ep) (omega arith)
+  owner_small = let d = D.1.1.1 in let l = d.packed.owner (c % 2176 / 17) (inside d) in rw (ew, ep) (omega arith)
 
   pub made-zero : c / 2176 ≡ 0 → (SmallEdge (record { source = record { kind = 0; number = w; index = 0 }; target = record { kind = 1; number = p; index = x }; label = record { production = p; index = x } })
-      × ((T : Table) (e : TraceEdge) → Decodes g n T e c → value_words (record { source = record { kind = 0; number = w; index = 0 }; target = record { kind = 1; number = p; index = x }; label = record { production = p; index = x } }) ≡ edge_words e))
+      × ((n : ℕ) (T : Table) (e : TraceEdge) → Decodes g n T e c → value_words (record { source = record { kind = 0; number = w; index = 0 }; target = record { kind = 1; number = p; index = x }; label = record { production = p; index = x } }) ≡ edge_words e))
   unfolding value_words
   made-zero k =
       let o = owner_small in (
@@ -135,26 +153,23 @@ module _ (g : List ℕ) (n c p x w : ℕ) (D : (T : Table) × ((e : TraceEdge) �
           production = omega arith;
           index = omega arith;
         },
-        λ T e d. rw (ew, ep, ex) (words-zero d k),
+        λ n T e d. rw (ew, ep, ex) (words-zero d k),
       )
 
   module _ (ne : c / 2176 ≡ 0 → ⊥) where
-    pub production_inside : p < n
-    production_inside = rw ep (inside D.1.1)
-
     pub cursor_inside : x < length (listed (symbol_words g p))
-    cursor_inside = rw (ep, ex) (before_end D.1.1 ne)
+    cursor_inside = rw (ep, ex) (before_end D.1.1.1 ne)
 
     -- v: the node of the nonterminal that the item shifts
     module _ (v : Node) (ev : (m : ℕ) → shifts_nonterminal (listed (symbol_words g p)) x m ≡ true → v ≡ record { kind = 0; number = m; index = 0 }) where
-      v_is : {T : Table} {e : TraceEdge} (d : Decodes g n T e c) → v ≡ record { kind = 0; number = cursor_of T (item_in c); index = 0 }
-      v_is {T} d = ev (cursor_of T (item_in c)) (rw (ep, ex) (shifts d ne))
+      v_is : {n : ℕ} {T : Table} {e : TraceEdge} (d : Decodes g n T e c) → v ≡ record { kind = 0; number = cursor_of T (item_in c); index = 0 }
+      v_is {T = T} d = ev (cursor_of T (item_in c)) (rw (ep, ex) (shifts d ne))
 
       v_small : SmallNode v
-      v_small = rw (v_is D.1.1) (record { kind = omega arith; number = cursor_small D.1.1 ne; index = omega arith })
+      v_small = rw (v_is D.1.1.1) (record { kind = omega arith; number = cursor_small D.1.1.1 ne; index = omega arith })
 
       pub made_one : c / 2176 ≡ 1 → (SmallEdge (record { source = record { kind = 0; number = w; index = 0 }; target = v; label = record { production = p; index = x } })
-          × ((T : Table) (e : TraceEdge) → Decodes g n T e c → value_words (record { source = record { kind = 0; number = w; index = 0 }; target = v; label = record { production = p; index = x } }) ≡ edge_words e))
+          × ((n : ℕ) (T : Table) (e : TraceEdge) → Decodes g n T e c → value_words (record { source = record { kind = 0; number = w; index = 0 }; target = v; label = record { production = p; index = x } }) ≡ edge_words e))
       unfolding value_words
       made_one k = (
         record {
@@ -163,11 +178,11 @@ module _ (g : List ℕ) (n c p x w : ℕ) (D : (T : Table) × ((e : TraceEdge) �
           production = omega arith;
           index = omega arith;
         },
-        λ T e d. rw (v_is d, ew, ep, ex) (words_one d ne k),
+        λ n T e d. rw (v_is d, ew, ep, ex) (words_one d ne k),
       )
 
       pub made_two : (c / 2176 ≡ 1 → ⊥) → (SmallEdge (record { source = record { kind = 1; number = p; index = x }; target = v; label = record { production = p; index = x } })
-          × ((T : Table) (e : TraceEdge) → Decodes g n T e c → value_words (record { source = record { kind = 1; number = p; index = x }; target = v; label = record { production = p; index = x } }) ≡ edge_words e))
+          × ((n : ℕ) (T : Table) (e : TraceEdge) → Decodes g n T e c → value_words (record { source = record { kind = 1; number = p; index = x }; target = v; label = record { production = p; index = x } }) ≡ edge_words e))
       unfolding value_words
       made_two k = (
         record {
@@ -176,5 +191,5 @@ module _ (g : List ℕ) (n c p x w : ℕ) (D : (T : Table) × ((e : TraceEdge) �
           production = omega arith;
           index = omega arith;
         },
-        λ T e d. rw (v_is d, ep, ex) (words_two d ne k),
+        λ n T e d. rw (v_is d, ep, ex) (words_two d ne k),
       )
