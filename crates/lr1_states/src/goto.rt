@@ -124,7 +124,7 @@ pub fn goto_over(
     ensures { (length kernel.new ≡ length kernel.old) × OnErr result ((words.new ≡ words.old) × (begins.new ≡ begins.old)) × ((s : Search source.entry words.old begins.old.items begins.old.states) → Reached s.T s.start s.Rs (goto_to s.T s.room (slice_index_or s.Rs k []) s.Rs (meant symbol)) words.new begins.new.items begins.new.states result) }
 {
     let (begin, past) = begins.span(k);
-    let many = move_over(source.grammar, words, begin, past, symbol, kernel);
+    let many = move_over(source.grammar, words, begin, past, Some(symbol), kernel);
     if many == 0 {
         return Ok(None);
     }

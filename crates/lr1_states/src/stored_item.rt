@@ -1,6 +1,6 @@
 // Items with their tokens in words (specs/stored_item/Stored): reading and writing one, moving those with the cursor at a symbol over it, comparing kernels.
 
-ghost use Rattle.std.specs.Prelude.{◌≡◌, ℕ, ◌+◌, ◌-◌, ◌*◌, ◌/◌, ◌^◌, ◌<◌, ◌≤◌, length};
+ghost use Rattle.std.specs.Prelude.{◌≡◌, ℕ, ◌+◌, ◌-◌, ◌*◌, ◌/◌, ◌^◌, ◌<◌, ◌≤◌, length, option_map};
 ghost use Rattle.lr1_base.specs.repr.Sizes.{index_limit, record_limit};
 ghost use Rattle.lr1_base.specs.repr.Symbols.{meant};
 ghost use Rattle.lr1_states.specs.stored_item.Stored.{entry_at, entries, entry_words, put_entry, moved_over, is_same_kernel, Appended};
@@ -79,15 +79,15 @@ pub fn write_item(words: &mut [u16], at: usize, item: StoredItem)
 fn move_one(
     grammar: Grammar,
     read: StoredItem,
-    symbol: Symbol,
+    symbol: Option<Symbol>,
     kernel: &mut [u16],
     many: usize,
 ) -> usize
     requires within { (read.place < index_limit * grammar.productions) × (read.set < 2 ^ 64) }
     requires room { (many < record_limit) × (many * 5 + 5 ≤ length kernel.old) }
-    ensures { Appended grammar.entry.words.now (meant symbol) read.place read.set kernel.old kernel.new many result }
+    ensures { Appended grammar.entry.words.now (option_map meant symbol) read.place read.set kernel.old kernel.new many result }
 {
-    if Item::at(read.place).cursor(grammar) == Some(symbol) {
+    if Item::at(read.place).cursor(grammar) == symbol {
         let next = StoredItem {
             place: read.place + 1,
             set: read.set,
@@ -99,18 +99,18 @@ fn move_one(
     }
 }
 
-// The items number `from` up to `past` that have their cursor at the symbol, moved over it, at the front of the kernel's words; how many they are (here and at one of them, and no struct of both, which would be of a fixed size and ask more of callers than words enough). Here and in kept_states by number and not as a slice of their words: what is known of the states found speaks of items by number.
+// The items number `from` up to `past` that have their cursor at the symbol, moved over it, at the front of the kernel's words; how many they are (here and at one of them, and no struct of both, which would be of a fixed size and ask more of callers than words enough). With no symbol those with the cursor at their end are moved. Here and in kept_states by number and not as a slice of their words: what is known of the states found speaks of items by number.
 pub fn move_over(
     grammar: Grammar,
     words: &[u16],
     from: usize,
     past: usize,
-    symbol: Symbol,
+    symbol: Option<Symbol>,
     kernel: &mut [u16],
 ) -> usize
     requires from_le_past { (from ≤ past) × (past ≤ record_limit) × (past * 5 ≤ length words.now) × ((past - from) * 5 ≤ length kernel.old) }
     requires by_index { (m : ℕ) → from ≤ m → m < past → (entry_at words.now m).place < index_limit * grammar.productions }
-    ensures { (result ≤ past - from) × (length kernel.new ≡ length kernel.old) × (entries kernel.new 0 result ≡ moved_over grammar.entry.words.now (meant symbol) (entries words.now from (past - from))) }
+    ensures { (result ≤ past - from) × (length kernel.new ≡ length kernel.old) × (entries kernel.new 0 result ≡ moved_over grammar.entry.words.now (option_map meant symbol) (entries words.now from (past - from))) }
 {
     let mut many = 0;
     let items = &words[from * StoredItem::WORDS..past * StoredItem::WORDS];

@@ -196,7 +196,7 @@ module _ (source : Source) (ws bs : List ℕ) (n : ℕ) (s : Search source ws bs
 
   -- what is moved stands at the front of the kernel's words
   module _ (X : Symbol) (F : IsOneOf source.sizes.nonterminals source.sets.now.terminals X) (ks : List ℕ) (room : item_limit * 5 ≤ length ks) (many : ℕ) (low : many ≤ get_or bs (k + 1) 0 - get_or bs k 0)
-      (is : entries ks 0 many ≡ moved_over source.grammar.words.now X (entries ws (get_or bs k 0) (get_or bs (k + 1) 0 - get_or bs k 0))) where
+      (is : entries ks 0 many ≡ moved_over source.grammar.words.now (Some X) (entries ws (get_or bs k 0) (get_or bs (k + 1) 0 - get_or bs k 0))) where
     abbrev M : List ℕ
     M = moved s.T X (get_or s.Rs k [])
 
@@ -211,7 +211,7 @@ module _ (source : Source) (ws bs : List ℕ) (n : ℕ) (s : Search source ws bs
 
     over_is : entries front 0 (length front / 5) ≡ packed M
     over_is =
-        entries_front ks many over-room_front ∙ is ∙ ap (moved_over source.grammar.words.now X) state_is
+        entries_front ks many over-room_front ∙ is ∙ ap (moved_over source.grammar.words.now (Some X)) state_is
         ∙ packed-moved s.T source.grammar.words.now source.grammar.productions source.sets.now.terminals source.sets.now.map s.grammar X (get_or s.Rs k []) size
 
     over_many : length (packed M) ≡ many

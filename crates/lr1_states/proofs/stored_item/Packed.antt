@@ -1,5 +1,5 @@
 -- A goto's kernel in words: the items of a state moved over a symbol are the places of `moved` that have a token (`packed-moved`).
-use Rattle.std.proofs.Common.{◌≡◌, ℕ, zero, suc, ◌+◌, ◌*◌, ◌/◌, ◌%◌, ◌<◌, ◌≤◌, true, false, not, eqb, ltb, List, [], ◌∷◌, ◌++◌, length, get_or, drop, sym, refl, ap, ◌∙◌, arith, ltb-false, ltb-true, eq-eqb, ne_eqb, eqb-true}
+use Rattle.std.proofs.Common.{◌≡◌, ℕ, zero, suc, ◌+◌, ◌*◌, ◌/◌, ◌%◌, ◌<◌, ◌≤◌, true, false, not, eqb, ltb, Some, List, [], ◌∷◌, ◌++◌, length, get_or, drop, sym, refl, ap, ◌∙◌, arith, ltb-false, ltb-true, eq-eqb, ne_eqb, eqb-true}
 use lib.ListN.{get_or-eq_default}
 use borrow.Author.Tests.{eqb-false}
 use Rattle.lr1_base.specs.repr.Sizes.{index_limit}
@@ -12,7 +12,7 @@ use Rattle.lr1_states.specs.canonical.States.{places, from, begins, moved_to, mo
 use Rattle.lr1_states.proofs.canonical.Goto.{drop-long, length_moved, moved_at, moved_to-zero, symbols_short}
 use Rattle.lr1_states.specs.closure.Grammar.{OfTable}
 use Rattle.lr1_states.proofs.closure.Grammar.{production_at_lem}
-use Rattle.lr1_states.specs.stored_item.Stored.{Entry, held, packed, moved_over}
+use Rattle.lr1_states.specs.stored_item.Stored.{Entry, held, packed, is_at, moved_over}
 
 -- places of a range that have a token
 
@@ -26,18 +26,18 @@ held-some S x xs z = rw (keep-yes (λ x. not (eqb (get_or S x 0) 0)) x xs (rw (n
 abbrev cut : List ℕ → ℕ → List Symbol
 cut g x = drop (x % index_limit) (listed (symbol_words g (x / index_limit)))
 
-over_here : (g : List ℕ) (X : Symbol) (e : Entry) (es : List Entry) → begins X (cut g e.place) ≡ true → moved_over g X (e ∷ es) ≡ record { place = e.place + 1; set = e.set } ∷ moved_over g X es
-unfolding moved_over
+over_here : (g : List ℕ) (X : Symbol) (e : Entry) (es : List Entry) → begins X (cut g e.place) ≡ true → moved_over g (Some X) (e ∷ es) ≡ record { place = e.place + 1; set = e.set } ∷ moved_over g (Some X) es
+unfolding moved_over is_at
 over_here g X e es t = rw (t, moved_over)
 
-over_past : (g : List ℕ) (X : Symbol) (e : Entry) (es : List Entry) → begins X (cut g e.place) ≡ false → moved_over g X (e ∷ es) ≡ moved_over g X es
-unfolding moved_over
+over_past : (g : List ℕ) (X : Symbol) (e : Entry) (es : List Entry) → begins X (cut g e.place) ≡ false → moved_over g (Some X) (e ∷ es) ≡ moved_over g (Some X) es
+unfolding moved_over is_at
 over_past g X e es t = rw (t, moved_over)
 
 -- M holds what S holds one place before, where the cursor stands at the symbol
 module _ (g : List ℕ) (X : Symbol) (S M : List ℕ) (n : ℕ) (at : (x : ℕ) → x < n → begins X (cut g x) ≡ true → get_or M (suc x) 0 ≡ get_or S x 0)
     (off : (x : ℕ) → x < n → begins X (cut g x) ≡ false → get_or M (suc x) 0 ≡ 0) where
-  pub held_moved : (x m : ℕ) → x + m ≤ n → moved_over g X (held S (up_from x m)) ≡ held M (up_from (suc x) m)
+  pub held_moved : (x m : ℕ) → x + m ≤ n → moved_over g (Some X) (held S (up_from x m)) ≡ held M (up_from (suc x) m)
   unfolding up_from moved_over
   held_moved x zero h = rw (keep-nil (λ x. not (eqb (get_or S x 0) 0)), keep-nil (λ x. not (eqb (get_or M x 0) 0)))
   held_moved x (suc m) h =
@@ -47,10 +47,10 @@ module _ (g : List ℕ) (X : Symbol) (S M : List ℕ) (n : ℕ) (at : (x : ℕ) 
       (λ t.
       let z = eqb-true (get_or S x 0) 0 t in
       let none : get_or M (suc x) 0 ≡ 0 = cases (begins X (cut g x)) (λ u. at x l u ∙ z) (λ u. off x l u) in
-      ap (moved_over g X) (held_none S x (up_from (suc x) m) z) ∙ more ∙ sym (held_none M (suc x) (up_from (suc (suc x)) m) none))
+      ap (moved_over g (Some X)) (held_none S x (up_from (suc x) m) z) ∙ more ∙ sym (held_none M (suc x) (up_from (suc (suc x)) m) none))
       (λ t.
       let z = eqb-false (get_or S x 0) 0 t in
-      ap (moved_over g X) (held-some S x (up_from (suc x) m) z) ∙ cases (begins X (cut g x))
+      ap (moved_over g (Some X)) (held-some S x (up_from (suc x) m) z) ∙ cases (begins X (cut g x))
       (λ u.
       let e = at x l u in
       let one : x + 1 ≡ suc x = omega arith in
@@ -129,7 +129,7 @@ module _ (T : Table) (g : List ℕ) (k e : ℕ) (sets : List ℕ) (G : OfTable T
   agree x h = ap (λ (r : Production). begins X (drop (x % index_limit) r.symbols)) (sym (production_at_lem T g k e sets G (x / index_limit) (omega (arith, G.many))))
 
   -- what `move_over` gives is the kernel of the goto
-  pub packed-moved : (S : List ℕ) → length S ≡ places T → moved_over g X (packed S) ≡ packed (moved T X S)
+  pub packed-moved : (S : List ℕ) → length S ≡ places T → moved_over g (Some X) (packed S) ≡ packed (moved T X S)
   unfolding packed below
   packed-moved S long =
       let M : List ℕ = moved T X S in

@@ -1,5 +1,5 @@
 -- Laws of items in words: what is put is read, and nothing else changes; one law for each way through the code.
-use Rattle.std.proofs.Common.{◌≡◌, ℕ, zero, suc, ◌+◌, ◌-◌, ◌*◌, ◌/◌, ◌%◌, ◌<◌, ◌≤◌, true, false, ◌&&◌, eqb, Option, Some, None, List, [], ◌∷◌, ◌++◌, map, length, get_or, take, drop, set, sym, refl, ap, ◌∙◌, append_assoc, append-nil, add-one, arith, length-append, length-drop, length-set, get_or-drop, get_or-take, get_or-append-add, get_or-set_other, get_or-set_same, eq-eqb, ne_eqb, eqb-true}
+use Rattle.std.proofs.Common.{◌≡◌, ℕ, zero, suc, ◌+◌, ◌-◌, ◌*◌, ◌/◌, ◌%◌, ◌<◌, ◌≤◌, true, false, ◌&&◌, eqb, Option, Some, None, option_map, List, [], ◌∷◌, ◌++◌, map, length, get_or, take, drop, set, sym, refl, ap, ◌∙◌, append_assoc, append-nil, add-one, arith, length-append, length-drop, length-set, get_or-drop, get_or-take, get_or-append-add, get_or-set_other, get_or-set_same, eq-eqb, ne_eqb, eqb-true}
 use Rattle.std.proofs.lemmas.List.{length-take-le}
 use lib.ListN.{get_or-append}
 use borrow.Rule.Slice.PartMut.{put_mid}
@@ -15,7 +15,7 @@ use Rattle.std.specs.Option.{MatchOption, option_eq}
 use Rattle.lr1_base.specs.repr.Listed.{listed}
 use Rattle.lr1_base.specs.repr.Packed.{symbol_words}
 use Rattle.lr1_states.specs.canonical.States.{begins}
-use Rattle.lr1_states.specs.stored_item.Stored.{Entry, set_at, entry_at, entries, entry_words, put_entry, moved_over, same_entry, is_same_kernel, Appended}
+use Rattle.lr1_states.specs.stored_item.Stored.{Entry, set_at, entry_at, entries, entry_words, put_entry, is_at, moved_over, same_entry, is_same_kernel, Appended}
 
 -- one item
 
@@ -210,24 +210,24 @@ pub entries_front : (ws : List ℕ) (n : ℕ) → n * 5 ≤ length ws → entrie
 unfolding all_entries
 entries_front ws n h = let z : n * 5 - 0 * 5 ≡ n * 5 = omega arith in let y : n - 0 ≡ n = omega arith in rw (z, y) at (all_part ws 0 n (omega arith) h)
 
--- moving over a symbol
+-- moving over a symbol, or over the end
 
-module _ (g : List ℕ) (X : Symbol) (x s : ℕ) (es : List Entry) where
-  over_yes : begins X (drop (x % index_limit) (listed (symbol_words g (x / index_limit)))) ≡ true → moved_over g X (record { place = x; set = s } ∷ es) ≡ record { place = x + 1; set = s } ∷ moved_over g X es
+module _ (g : List ℕ) (X : Option Symbol) (x s : ℕ) (es : List Entry) where
+  over_yes : is_at X (drop (x % index_limit) (listed (symbol_words g (x / index_limit)))) ≡ true → moved_over g X (record { place = x; set = s } ∷ es) ≡ record { place = x + 1; set = s } ∷ moved_over g X es
   unfolding moved_over
   over_yes e = rw (e, moved_over)
 
-  over_no : begins X (drop (x % index_limit) (listed (symbol_words g (x / index_limit)))) ≡ false → moved_over g X (record { place = x; set = s } ∷ es) ≡ moved_over g X es
+  over_no : is_at X (drop (x % index_limit) (listed (symbol_words g (x / index_limit)))) ≡ false → moved_over g X (record { place = x; set = s } ∷ es) ≡ moved_over g X es
   unfolding moved_over
   over_no e = rw (e, moved_over)
 
-over-nil : (g : List ℕ) (X : Symbol) → moved_over g X [] ≡ []
+over-nil : (g : List ℕ) (X : Option Symbol) → moved_over g X [] ≡ []
 unfolding moved_over
 over-nil g X = refl
 
-over-split : (g : List ℕ) (X : Symbol) (e : Entry) (es : List Entry) → moved_over g X (e ∷ es) ≡ moved_over g X (e ∷ []) ++ moved_over g X es
+over-split : (g : List ℕ) (X : Option Symbol) (e : Entry) (es : List Entry) → moved_over g X (e ∷ es) ≡ moved_over g X (e ∷ []) ++ moved_over g X es
 over-split g X e es =
-    cases (begins X (drop (e.place % index_limit) (listed (symbol_words g (e.place / index_limit)))))
+    cases (is_at X (drop (e.place % index_limit) (listed (symbol_words g (e.place / index_limit)))))
     (λ t. over_yes g X e.place e.set es t ∙ rw (over_yes g X e.place e.set [] t, over-nil g X))
     (λ t. over_no g X e.place e.set es t ∙ rw (over_no g X e.place e.set [] t, over-nil g X))
 
@@ -239,12 +239,14 @@ same_symbol (Nonterminal n) (Terminal m) = refl
 same_symbol (Terminal n) (Nonterminal m) = refl
 same_symbol (Terminal n) (Terminal m) = turned n m
 
-pub begins_with : (X : Coded) (r : Option Coded) (left rest : List Symbol) → MatchOption r (left ≡ []) (λ s. (left ≡ meant s ∷ rest) × IsInRange s) → begins (meant X) left ≡ option_eq eq-value.it r (Some X)
-unfolding begins
-begins_with X None left rest e = rw e refl
-begins_with X (Some Y) left rest e = rw e.0 (same_symbol X Y)
+pub begins_with : (X r : Option Coded) (left rest : List Symbol) → MatchOption r (left ≡ []) (λ s. (left ≡ meant s ∷ rest) × IsInRange s) → is_at (option_map meant X) left ≡ option_eq eq-value.it r X
+unfolding is_at begins
+begins_with None None left rest e = rw e refl
+begins_with None (Some Y) left rest e = rw e.0 refl
+begins_with (Some X) None left rest e = rw e refl
+begins_with (Some X) (Some Y) left rest e = rw e.0 (same_symbol X Y)
 
-pub appended : (g : List ℕ) (X : Symbol) (x s : ℕ) (k k' : List ℕ) (n : ℕ) → n * 5 + 5 ≤ length k → begins X (drop (x % index_limit) (listed (symbol_words g (x / index_limit)))) ≡ true → k' ≡ put_entry k n (x + 1) s → Appended g X x s k k' n (n + 1)
+pub appended : (g : List ℕ) (X : Option Symbol) (x s : ℕ) (k k' : List ℕ) (n : ℕ) → n * 5 + 5 ≤ length k → is_at X (drop (x % index_limit) (listed (symbol_words g (x / index_limit)))) ≡ true → k' ≡ put_entry k n (x + 1) s → Appended g X x s k k' n (n + 1)
 appended g X x s k k' n h e q = record {
   long = ap length q ∙ length-put k n (x + 1) s;
   low = omega arith;
@@ -252,7 +254,7 @@ appended g X x s k k' n h e q = record {
   is = rw (q, over_yes g X x s [] e, over-nil g X) (entries-put k n (x + 1) s h);
 }
 
-pub passed : (g : List ℕ) (X : Symbol) (x s : ℕ) (k : List ℕ) (n : ℕ) → begins X (drop (x % index_limit) (listed (symbol_words g (x / index_limit)))) ≡ false → Appended g X x s k k n n
+pub passed : (g : List ℕ) (X : Option Symbol) (x s : ℕ) (k : List ℕ) (n : ℕ) → is_at X (drop (x % index_limit) (listed (symbol_words g (x / index_limit)))) ≡ false → Appended g X x s k k n n
 passed g X x s k n e = record {
   long = refl;
   low = omega arith;
@@ -261,7 +263,7 @@ passed g X x s k n e = record {
 }
 
 -- a turn of the loop: `left` of the items are still to be moved
-pub record Turn (g : List ℕ) (X : Symbol) (limit : ℕ) (all : List Entry) (k : List ℕ) (n : ℕ) (left : List Entry) : Type 0 where
+pub record Turn (g : List ℕ) (X : Option Symbol) (limit : ℕ) (all : List Entry) (k : List ℕ) (n : ℕ) (left : List Entry) : Type 0 where
   pub short : n + length left ≤ length all
   pub inside : All (λ (e : Entry). e.place < limit) left
   pub moved : entries k 0 n ++ moved_over g X left ≡ moved_over g X all
@@ -275,7 +277,7 @@ pub length-entries : (ws : List ℕ) (m n : ℕ) → length (entries ws m n) ≡
 unfolding entries
 length-entries ws m n = length_mapped (entry_at ws) (up_from m n) ∙ length-up_from m n
 
-pub turn_begin : (g : List ℕ) (X : Symbol) (limit : ℕ) (ws k : List ℕ) (from past : ℕ) → from ≤ past → past * 5 ≤ length ws → ((i : ℕ) → from ≤ i → i < past → (entry_at ws i).place < limit)
+pub turn_begin : (g : List ℕ) (X : Option Symbol) (limit : ℕ) (ws k : List ℕ) (from past : ℕ) → from ≤ past → past * 5 ≤ length ws → ((i : ℕ) → from ≤ i → i < past → (entry_at ws i).place < limit)
     → Turn g X limit (entries ws from (past - from)) k 0 (all_entries (take (past * 5 - from * 5) (drop (from * 5) ws)))
 unfolding entries up_from
 turn_begin g X limit ws k from past h l f =
@@ -285,7 +287,7 @@ turn_begin g X limit ws k from past h l f =
       moved = refl;
     }
 
-module _ (g : List ℕ) (X : Symbol) (limit : ℕ) (all : List Entry) (k : List ℕ) (n : ℕ) where
+module _ (g : List ℕ) (X : Option Symbol) (limit : ℕ) (all : List Entry) (k : List ℕ) (n : ℕ) where
   module _ (w rest : List ℕ) (h : length w ≡ 5) (t : Turn g X limit all k n (all_entries (w ++ rest))) (x s : ℕ) (e : record { place = x; set = s } ≡ entry_at w 0) where
     this : Turn g X limit all k n (record { place = x; set = s } ∷ all_entries rest)
     this = rw (all-more w rest h, ← e) at t

@@ -1,6 +1,6 @@
 -- Items with their tokens in words, five each: the place (17 * production + index), then the set in four words, the lowest first. A state's items stand one
 -- behind the other, by place.
-use Rattle.std.specs.Prelude.{◌≡◌, ℕ, ◌+◌, ◌*◌, ◌/◌, ◌%◌, ◌≤◌, Bool, true, false, not, ◌&&◌, List, [], ◌∷◌, ◌++◌, map, length, drop, ◌==◌, slice_index, slice_set}
+use Rattle.std.specs.Prelude.{◌≡◌, ℕ, ◌+◌, ◌*◌, ◌/◌, ◌%◌, ◌≤◌, Bool, true, false, not, ◌&&◌, Option, Some, None, List, [], ◌∷◌, ◌++◌, map, length, drop, ◌==◌, slice_index, slice_set}
 use Rattle.lr1_base.specs.repr.Sizes.{index_limit}
 use Rattle.lr1_base.specs.repr.Lists.{up_from, below, keep}
 use Rattle.lr1_base.specs.repr.Meaning.{Symbol}
@@ -42,10 +42,16 @@ held S xs = map (λ x. record { place = x; set = slice_index S x }) (keep (λ x.
 unfoldable pub packed : List ℕ → List Entry
 packed S = held S (below (length S))
 
--- those with the cursor at a symbol, moved over it
-unfoldable pub moved_over : List ℕ → Symbol → List Entry → List Entry
+-- whether the symbols from a cursor on begin with this one, or none are left
+unfoldable pub is_at : Option Symbol → List Symbol → Bool
+is_at (Some X) xs = begins X xs
+is_at None [] = true
+is_at None (Y ∷ ys) = false
+
+-- those with the cursor at a symbol, moved over it; with none, those with the cursor at their end
+unfoldable pub moved_over : List ℕ → Option Symbol → List Entry → List Entry
 moved_over g X [] = []
-moved_over g X (e ∷ es) = elim (begins X (drop (e.place % index_limit) (listed (symbol_words g (e.place / index_limit))))) [
+moved_over g X (e ∷ es) = elim (is_at X (drop (e.place % index_limit) (listed (symbol_words g (e.place / index_limit))))) [
   | true ↦ record { place = e.place + 1; set = e.set } ∷ moved_over g X es
   | false ↦ moved_over g X es
 ]
@@ -61,7 +67,7 @@ is_same_kernel (e ∷ es) [] = elim (e.place % index_limit == 0) [ true ↦ is_s
 is_same_kernel (e ∷ es) (d ∷ ds) = elim (e.place % index_limit == 0) [ true ↦ is_same_kernel es (d ∷ ds) | false ↦ same_entry e d && is_same_kernel es ds ]
 
 -- one item more taken over a symbol, k and k' the kernel's words before and after
-pub record Appended (g : List ℕ) (X : Symbol) (x s : ℕ) (k k' : List ℕ) (n r : ℕ) : Type 0 where
+pub record Appended (g : List ℕ) (X : Option Symbol) (x s : ℕ) (k k' : List ℕ) (n r : ℕ) : Type 0 where
   pub long : length k' ≡ length k
   pub low : n ≤ r
   pub high : r ≤ n + 1
