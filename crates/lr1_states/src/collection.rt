@@ -1,7 +1,7 @@
 // All states, taken by number (specs/collection/Rows).
 // The search for states from the first to the last (`found_to` of specs/goto/Steps).
 
-ghost use Rattle.std.specs.Prelude.{◌≡◌, [], ◌+◌, ◌*◌, ◌≤◌, ◌<◌, length, get_or};
+ghost use Rattle.std.specs.Prelude.{OnErr, ◌≡◌, [], ◌+◌, ◌*◌, ◌≤◌, ◌<◌, length, get_or};
 ghost use Rattle.lr1_base.specs.repr.Sizes.{item_limit, record_limit};
 ghost use Rattle.lr1_states.specs.goto.Steps.{collect_to, found_to};
 ghost use Rattle.lr1_states.specs.goto.Search.{Search};
@@ -13,8 +13,8 @@ use crate::start_state::first_state;
 use crate::state_list::Begins;
 use crate::transitions::{Edges, take_state};
 
-// The states behind those found, and the edges of all.
-pub fn find_states(
+// Every state taken, those found on the way too.
+fn take_states(
     source: Source,
     words: &mut [u16],
     begins: &mut Begins,
@@ -36,8 +36,31 @@ pub fn find_states(
     Ok(())
 }
 
-// All states and their edges.
-pub fn search_states(
+// The states behind those found, and the edges of all. Where it halts, there are as many states as before.
+pub fn find_states(
+    source: Source,
+    words: &mut [u16],
+    begins: &mut Begins,
+    kernel: &mut [u16],
+    edges: &mut Edges,
+) -> Result<(), Halt>
+    requires search { Search source words.old begins.old.items begins.old.states }
+    requires front { (item_limit * 5 ≤ length kernel.old) × (get_or edges.old.rows 0 0 ≡ 0) }
+    ensures states { OnErr result (begins.new.states ≡ begins.old.states) }
+    ensures found { (s : Search source.entry words.old begins.old.items begins.old.states) → FoundAs s.T s.start (collect_to 129 s.T s.room s.Rs []) words.new begins.new.items edges.new.list.words edges.new.rows begins.new.states result }
+{
+    let states = begins.states;
+    match take_states(source, words, begins, kernel, edges) {
+        Ok(()) => Ok(()),
+        Err(halt) => {
+            begins.states = states;
+            Err(halt)
+        }
+    }
+}
+
+// State 0, then all behind it.
+fn search_all(
     source: Source,
     start: usize,
     words: &mut [u16],
@@ -51,4 +74,28 @@ pub fn search_states(
 {
     first_state(source, start, words, begins)?;
     find_states(source, words, begins, kernel, edges)
+}
+
+// All states and their edges. Where it halts, there are as many states as before.
+pub fn search_states(
+    source: Source,
+    start: usize,
+    words: &mut [u16],
+    begins: &mut Begins,
+    kernel: &mut [u16],
+    edges: &mut Edges,
+) -> Result<(), Halt>
+    requires ready { Ready source start }
+    requires front { (item_limit * 5 ≤ length kernel.old) × (record_limit * 5 ≤ length words.old) × (get_or begins.old.items 0 0 ≡ 0) × (get_or edges.old.rows 0 0 ≡ 0) }
+    ensures states { OnErr result (begins.new.states ≡ begins.old.states) }
+    ensures found { (s : Ready source.entry start) → FoundAs s.T start (found_to s.T start s.room) words.new begins.new.items edges.new.list.words edges.new.rows begins.new.states result }
+{
+    let before = begins.states;
+    match search_all(source, start, words, begins, kernel, edges) {
+        Ok(()) => Ok(()),
+        Err(halt) => {
+            begins.states = before;
+            Err(halt)
+        }
+    }
 }

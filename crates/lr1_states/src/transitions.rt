@@ -1,6 +1,6 @@
 // Taking a state: its edges over all symbols, nonterminals first and ascending (specs/transitions/Taking).
 
-ghost use Rattle.std.specs.Prelude.{◌≡◌, [], ℕ, ◌+◌, ◌*◌, ◌≤◌, ◌<◌, length, get_or, set};
+ghost use Rattle.std.specs.Prelude.{OnErr, ◌≡◌, [], ℕ, ◌+◌, ◌*◌, ◌≤◌, ◌<◌, length, get_or, set};
 ghost use Rattle.lr1_base.specs.repr.Sizes.{item_limit, state_limit};
 ghost use Rattle.lr1_base.specs.repr.Symbols.{meant, IsInRange};
 ghost use Rattle.lr1_base.specs.item.Cursor.{symbol_code};
@@ -134,8 +134,8 @@ fn take_one(
     Ok(())
 }
 
-// State k taken.
-pub fn take_state(
+// Every symbol tried.
+fn take_symbols(
     source: Source,
     words: &mut [u16],
     begins: &mut Begins,
@@ -156,4 +156,29 @@ pub fn take_state(
         take_one(source, words, begins, k, symbol, kernel, edges)?;
     }
     Ok(())
+}
+
+// State k taken. Where it halts, there are as many states and edges as before.
+pub fn take_state(
+    source: Source,
+    words: &mut [u16],
+    begins: &mut Begins,
+    k: usize,
+    kernel: &mut [u16],
+    edges: &mut EdgeList,
+) -> Result<(), Halt>
+    requires search { Search source words.old begins.old.items begins.old.states }
+    requires k_lt_found { (k < begins.old.states) × (item_limit * 5 ≤ length kernel.old) × (edges.old.many + 95 ≤ 12160) }
+    ensures { (length kernel.new ≡ length kernel.old) × OnErr result ((begins.new.states ≡ begins.old.states) × (edges.new.many ≡ edges.old.many)) × ((s : Search source.entry words.old begins.old.items begins.old.states) → TakenAs s.T s.start s.Rs (take_to s.T s.room (get_or s.Rs k []) s.Rs (tried s.T)) words.new begins.new.items edges.old.words edges.new.words edges.old.many begins.new.states edges.new.many result) }
+{
+    let states = begins.states;
+    let many = edges.many;
+    match take_symbols(source, words, begins, k, kernel, edges) {
+        Ok(()) => Ok(()),
+        Err(halt) => {
+            begins.states = states;
+            edges.many = many;
+            Err(halt)
+        }
+    }
 }

@@ -3,7 +3,7 @@ use lib.ListN.{length}
 use Prim.Native.Nat.{◌-◌}
 use Rattle.lr1_states.proofs.collection.Laws.{Round}
 use Rattle.lr1_states.specs.goto.Search.{Search}
-use Rattle.lr1_states.proofs.collection.find_states.Given as goal
+use Rattle.lr1_states.proofs.collection.take_states.Given as goal
 
 abbrev pub invariant-loop-k : goal.invariant-loop-k
 invariant-loop-k l = (length l.kernel ≡ length l.initial.kernel) × ((s : Search l.source l.initial.words l.initial.begins.items l.initial.begins.states) → Round s.T s.start s.room s.Rs l.words l.begins.items l.edges.list.words l.edges.rows l.k l.edges.list.many l.begins.states)
