@@ -3,7 +3,7 @@ ghost use Rattle.std.specs.Prelude.{◌≡◌, ◌++◌, ◌∷◌, [], ◌+◌,
 ghost use Rattle.lr1_base.specs.repr.Sizes.{example_symbols, reduction_room};
 ghost use Rattle.lr1_base.specs.numerals.Numeral.{numeral};
 ghost use Rattle.conflict_sides.specs.conflict.Numbers.{number_of_class, values_of_class, reading_of};
-ghost use Rattle.output_text.specs.conflict_lines.Lines.{Put, Whole, Shown, ReadingShown, symbol_text, reduction_text, symbol_texts, reduction_texts, total_of_symbols, printed_length, example_line, own_text, line_of_refusal, class_line, example_lines, lines_of};
+ghost use Rattle.output_text.specs.conflict_lines.Lines.{Put, Whole, Shown, ReadingShown, symbol_text, reduction_text, symbol_texts, reduction_texts, total_of_symbols, printed_length, example_line, own_text, line_of_refusal, class_line, example_lines, lines_of, reading_in};
 
 use conflict_sides::conflict::{Class, Classification};
 use enumerator::example::Example;
@@ -228,7 +228,38 @@ fn put_examples(out: &mut [u8], at: usize, class: Class, action: &[u16], reduce:
     }
 }
 
-// The lines of a conflict, at the front of the bytes; their number.
+// The lines of a conflict, at the front of the bytes; their number. A refusal is any number with any place.
+pub fn lines_of_reading(
+    out: &mut [u8],
+    number: u64,
+    classified: Result<Classification, (u16, u16)>,
+    action: &[u16],
+    reduce: &[u16],
+) -> usize
+    requires reading_shown { ReadingShown (reading_in classified) action.now reduce.now }
+    requires in_bounds { 65536 ≤ length out.old }
+    ensures { (take result out.new ≡ lines_of number (reading_in classified) action.now reduce.now) × (result ≤ length out.new) }
+{
+    match classified {
+        Ok(found) => {
+            let next = put_class(out, number, found);
+            put_examples(out, next, found.class, action, reduce)
+        }
+        Err(refused) => refused_line(out, number, refused.0, refused.1),
+    }
+}
+
+// A refusal as its two numbers.
+fn in_numbers(classified: Result<Classification, Refusal>) -> Result<Classification, (u16, u16)>
+    ensures { reading_in result ≡ reading_of classified }
+{
+    match classified {
+        Ok(found) => Ok(found),
+        Err(refusal) => Err((refusal.number(), refusal.place())),
+    }
+}
+
+// The lines of a conflict, its refusal one that an entry answers.
 pub fn lines(
     out: &mut [u8],
     number: u64,
@@ -240,11 +271,5 @@ pub fn lines(
     requires in_bounds { 65536 ≤ length out.old }
     ensures { (take result out.new ≡ lines_of number (reading_of classified) action.now reduce.now) × (result ≤ length out.new) }
 {
-    match classified {
-        Ok(found) => {
-            let next = put_class(out, number, found);
-            put_examples(out, next, found.class, action, reduce)
-        }
-        Err(refusal) => refused_line(out, number, refusal.number(), refusal.place()),
-    }
+    lines_of_reading(out, number, in_numbers(classified), action, reduce)
 }

@@ -108,10 +108,15 @@ pub fn read_table_words<'t, R: io::Input + Eprint>(
     Ok(&mut table[..records * RECORD_WORDS])
 }
 
-// How a run ended: a refusal is said, in one line on standard error.
+// A refusal, any number with any place, in one line on standard error.
+pub fn say_refused<R: Eprint>(rt: &R, refusal: u16, place: u16) {
+    let _ = eprintln!(rt; "refused {refusal} {place}");
+}
+
+// How a run ended: a refusal is said.
 pub fn say_end<R: Eprint>(rt: &R, run: Result<(), Stop>) {
     if let Err(Stop::Refused(refusal)) = run {
-        let _ = eprintln!(rt; "refused {refusal}");
+        say_refused(rt, refusal.number(), refusal.place());
     }
 }
 

@@ -14,16 +14,14 @@ use Rattle.std.proofs.lemmas.List.Sums.{sum_by-cons}
 use Rattle.std.specs.Simd.{first_chunks}
 use Rattle.lr1_base.proofs.repr.Lists.{cases, joined_append}
 use Rattle.lr1_base.specs.repr.Sizes.{reduction_room}
-use Rattle.lr1_base.specs.repr.Reply.{number_of, place_of}
-use Rattle.lr1_base.specs.declared.repr.refusals.Refusal.{Refusal}
 use Rattle.lr1_base.specs.repr.Lists.{joined}
-use Rattle.conflict_sides.specs.conflict.Numbers.{number_of_class, values_of_class, reading_of}
+use Rattle.conflict_sides.specs.conflict.Numbers.{number_of_class, values_of_class}
 use Rattle.lr1_base.specs.declared.repr.NonterminalString.{NonterminalString}
 use Rattle.conflict_sides.specs.declared.conflict.Class.{Class}
 use Rattle.conflict_sides.specs.declared.conflict.Class.TheVariants.{Naive, Ambiguity, Precedence, SuggestInline, SuggestQuestion, AmbiguousReduction, InsufficientLookahead}
 use Rattle.conflict_sides.specs.declared.conflict.Classification.{Classification}
 use Rattle.lr1_base.specs.numerals.Numeral.{numeral}
-use Rattle.output_text.specs.conflict_lines.Lines.{Put, Shown, ReadingShown, spaced, symbol_text, reduction_text, symbol_texts, reduction_texts, counted, total_of_symbols, printed_length, example_line, own_text, class_line, refused_text, line_of_refusal, example_lines, lines_of}
+use Rattle.output_text.specs.conflict_lines.Lines.{Put, Shown, ReadingShown, spaced, symbol_text, reduction_text, symbol_texts, reduction_texts, counted, total_of_symbols, printed_length, example_line, own_text, class_line, refused_text, line_of_refusal, example_lines, lines_of, reading_in}
 use Rattle.output_text.proofs.conflict_lines.Laws.{put-nothing, put_then, put_as, put_all, put-within}
 
 pub symbol-put : {a b c : List ℕ} {at m r : ℕ} (k n : ℕ) → Put a at (32 ∷ numeral k) b m → Put b m (47 ∷ numeral n) c r → Put a at (symbol_text k n) c r
@@ -189,15 +187,15 @@ unfolding example_lines
 examples_both k x y n e P Q = rw (ne_eqb k 0 n, ne_eqb k 5 e, example_lines) (put_then P Q)
 
 -- the lines of a conflict
-pub lines-refused : {k : Result Classification Refusal} {a b : List ℕ} {r : ℕ} {e : Refusal} (n : ℕ) (x y : List ℕ) → k ≡ Err e → Put a 0 (line_of_refusal n (number_of e) (place_of e)) b r → (take r b ≡ lines_of n (reading_of k) x y) × (r ≤ length b)
-unfolding lines_of reading_of
+pub lines-refused : {k : Result Classification (ℕ × ℕ)} {a b : List ℕ} {r : ℕ} {e : ℕ × ℕ} (n : ℕ) (x y : List ℕ) → k ≡ Err e → Put a 0 (line_of_refusal n e.0 e.1) b r → (take r b ≡ lines_of n (reading_in k) x y) × (r ≤ length b)
+unfolding lines_of reading_in
 lines-refused n x y e P = (rw e (put_all P), put-within P)
 
-pub lines_class : {k : Result Classification Refusal} {a b c : List ℕ} {m r : ℕ} (n : ℕ) (x y : List ℕ) {q : Classification} → k ≡ Ok q → Put a 0 (class_line n (number_of_class q.class) (values_of_class q.class) q.action_trials q.reduce_trials) b m → Put b m (example_lines (number_of_class q.class) x y) c r
-    → (take r c ≡ lines_of n (reading_of k) x y) × (r ≤ length c)
-unfolding lines_of reading_of
+pub lines_class : {k : Result Classification (ℕ × ℕ)} {a b c : List ℕ} {m r : ℕ} (n : ℕ) (x y : List ℕ) {q : Classification} → k ≡ Ok q → Put a 0 (class_line n (number_of_class q.class) (values_of_class q.class) q.action_trials q.reduce_trials) b m → Put b m (example_lines (number_of_class q.class) x y) c r
+    → (take r c ≡ lines_of n (reading_in k) x y) × (r ≤ length c)
+unfolding lines_of reading_in
 lines_class n x y e P Q = let W = put_then P Q in (rw e (put_all W), put-within W)
 
-pub class_shown : {k : Result Classification Refusal} {x y : List ℕ} {q : Classification} → k ≡ Ok q → ReadingShown (reading_of k) x y → Shown (number_of_class q.class) x y
-unfolding ReadingShown reading_of
+pub class_shown : {k : Result Classification (ℕ × ℕ)} {x y : List ℕ} {q : Classification} → k ≡ Ok q → ReadingShown (reading_in k) x y → Shown (number_of_class q.class) x y
+unfolding ReadingShown reading_in
 class_shown e S = rw e at S

@@ -1,9 +1,10 @@
 -- The lines that the explaining program prints (docs/RULES.md, "The explaining program"), as bytes.
-use Rattle.std.specs.Prelude.{ℕ, ◌+◌, ◌*◌, ◌≤◌, ◌≡◌, true, false, List, [], ◌∷◌, ◌++◌, length, get_or, take, drop, eqb}
+use Rattle.std.specs.Prelude.{ℕ, ◌+◌, ◌*◌, ◌≤◌, ◌≡◌, true, false, Result, Ok, Err, List, [], ◌∷◌, ◌++◌, length, get_or, take, drop, eqb}
 use Rattle.lr1_base.specs.repr.Sizes.{reduction_limit, example_symbols, reduction_room, reduction_place}
 use Rattle.lr1_base.specs.repr.Lists.{joined}
 use Rattle.lr1_base.specs.numerals.Numeral.{numeral}
-use Rattle.conflict_sides.specs.conflict.Numbers.{Reading, classed, refused}
+use Rattle.conflict_sides.specs.conflict.Numbers.{number_of_class, values_of_class, Reading, classed, refused}
+use Rattle.conflict_sides.specs.declared.conflict.Classification.{Classification}
 
 -- a number after a space
 unfoldable pub spaced : ℕ → List ℕ
@@ -75,6 +76,11 @@ example_lines c action reduce = elim (eqb c 0) [
   | true ↦ []
   | false ↦ elim (eqb c 5) [ true ↦ example_line 97 action | false ↦ example_line 97 action ++ example_line 114 reduce ]
 ]
+
+-- what classifying says, where a refusal is any number and place
+unfoldable pub reading_in : Result Classification (ℕ × ℕ) → Reading
+reading_in (Ok k) = classed (number_of_class k.class) (values_of_class k.class) k.action_trials k.reduce_trials
+reading_in (Err e) = refused e.0 e.1
 
 -- the lines of conflict k
 unfoldable pub lines_of : ℕ → Reading → List ℕ → List ℕ → List ℕ

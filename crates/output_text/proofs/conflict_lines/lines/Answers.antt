@@ -1,12 +1,7 @@
-use Rattle.output_text.proofs.conflict_lines.Texts.{lines-refused, lines_class, class_shown}
-use borrow.Author.Rules.{rules}
 use Rattle.output_text.proofs.conflict_lines.lines.Goals as goal
 
-pub put_examples-requires : goal.put_examples-requires
-put_examples-requires c = record { shown = class_shown c.in-Ok.is c.requires.reading_shown; at_in_bounds = search rules }
+pub lines_of_reading-requires : goal.lines_of_reading-requires
+lines_of_reading-requires c = record { reading_shown = rw c.in_numbers.ensures c.requires.reading_shown; in_bounds = c.requires.in_bounds }
 
-pub returns-in-Err : goal.returns-in-Err
-returns-in-Err c = lines-refused c.args.number _ _ c.in-Err.is (rw (c.number.ensures, c.place.ensures) at c.refused_line.ensures)
-
-pub returns-in-Ok : goal.returns-in-Ok
-returns-in-Ok c = lines_class c.args.number c.args.action.now c.args.reduce.now c.in-Ok.is c.put_class-next.ensures.0 c.put_examples.ensures
+pub returns : goal.returns
+returns c = rw c.in_numbers.ensures at c.lines_of_reading.ensures
