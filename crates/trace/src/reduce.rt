@@ -53,7 +53,78 @@ fn ends_at(over: Reduction, item: Item) -> bool
 
 // `trace_reduce_item`: an edge into the item, and on from each state in which the item begins.
 // What the two are given travels together in this recursion alone: a struct of it would be made once, in `reduce_codes`, with the edges lent in it, and each clause would go through it.
-#[cycle(reduce_item_reduce_state)]
+// What the two work over is lent, so that a frame is small: 4,096 of them may nest.
+#[cycle(trace_item_trace_from_state)]
+fn trace_item(
+    over: &Reduction,
+    walk: &mut StateWalk,
+    edges: &mut EdgeCodes,
+    entered: &mut [u64],
+    stamps: &mut Stamps,
+    state: usize,
+    item: Item,
+) -> Result<(), Full>
+    requires room { length entered.old ≡ pair_words }
+    requires table { meaning walk.old.table.words.now ≡ meaning over.now.tracer.table.words.now }
+    requires within { (state < length (meaning over.now.tracer.table.words.now).states) × ItemFits (meaning over.now.tracer.table.words.now) (record { production = item.production; index = item.index }) }
+    ensures reduces { OnOk result ((f : ℕ) → unset entered.old ≤ f → Reduces (meaning over.now.tracer.table.words.now) (λ (st : Trace). item_of_reduce (meaning over.now.tracer.table.words.now) (λ (p m : ℕ) (u : Trace). state_of_reduce (meaning over.now.tracer.table.words.now) f p m u) state (record { production = item.production; index = item.index }) st) edges.old.words.now edges.old.flags.now entered.old stamps.old.words edges.new.words.now edges.new.flags.now entered.new stamps.new.words) }
+    ensures reduce_exceeds { OnErr result ((f : ℕ) → unset entered.old ≤ f → ReduceExceeds (meaning over.now.tracer.table.words.now) (λ (st : Trace). item_of_reduce (meaning over.now.tracer.table.words.now) (λ (p m : ℕ) (u : Trace). state_of_reduce (meaning over.now.tracer.table.words.now) f p m u) state (record { production = item.production; index = item.index }) st) edges.old.words.now edges.old.flags.now entered.old stamps.old.words) }
+    ensures entered_bound { (unset entered.new ≤ unset entered.old) × (walk.new.table.words.now ≡ walk.old.table.words.now) }
+    ensures same { SameWords edges.old edges.new }
+{
+    to_item(over.tracer.least, edges, item)?;
+    let owner = over.tracer.grammar.owner(item.production);
+    let states = begins(over.tracer, walk, state, item);
+    for from in states.iter() {
+        trace_from_state(over, walk, edges, entered, stamps, from.0 as usize, owner)?;
+    }
+    Ok(())
+}
+
+// `trace_reduce_from_state`: the items of the state that can shift the nonterminal; where an item's suffix may derive the empty string, it is traced on,
+// once from this state: an item that has its stamp was.
+// An item is made of its record where it is read, here and below: two fields by their names, for which a function of crate trace would be no plainer.
+#[cycle(trace_item_trace_from_state)]
+fn trace_from_state(
+    over: &Reduction,
+    walk: &mut StateWalk,
+    edges: &mut EdgeCodes,
+    entered: &mut [u64],
+    stamps: &mut Stamps,
+    state: usize,
+    nonterminal: usize,
+) -> Result<(), Full>
+    requires room { length entered.old ≡ pair_words }
+    requires table { meaning walk.old.table.words.now ≡ meaning over.now.tracer.table.words.now }
+    requires within { (state < length (meaning over.now.tracer.table.words.now).states) × (nonterminal < length (meaning over.now.tracer.table.words.now).nonterminals) }
+    ensures reduces { OnOk result ((f : ℕ) → unset entered.old ≤ f → Reduces (meaning over.now.tracer.table.words.now) (λ (st : Trace). state_of_reduce (meaning over.now.tracer.table.words.now) f state nonterminal st) edges.old.words.now edges.old.flags.now entered.old stamps.old.words edges.new.words.now edges.new.flags.now entered.new stamps.new.words) }
+    ensures reduce_exceeds { OnErr result ((f : ℕ) → unset entered.old ≤ f → ReduceExceeds (meaning over.now.tracer.table.words.now) (λ (st : Trace). state_of_reduce (meaning over.now.tracer.table.words.now) f state nonterminal st) edges.old.words.now edges.old.flags.now entered.old stamps.old.words) }
+    ensures entered_bound { (unset entered.new ≤ unset entered.old) × (walk.new.table.words.now ≡ walk.old.table.words.now) }
+    ensures same { SameWords edges.old edges.new }
+{
+    if !enter(entered, state, nonterminal) {
+        return Ok(());
+    }
+    for read in over.tracer.table.items(state) {
+        let item = Item {
+            production: read.production,
+            index: read.index,
+        };
+        if !item.can_shift_nonterminal(over.tracer.grammar, nonterminal) {
+            continue;
+        }
+        let on = ends_at(*over, item);
+        to_nonterminal(over.tracer.least, edges, on, item)?;
+        if !on || stamps.at(item) == state + 1 {
+            continue;
+        }
+        trace_item(over, walk, edges, entered, stamps, state, item)?;
+        stamps.put(item, state + 1);
+    }
+    Ok(())
+}
+
+// The item step, over what its caller holds.
 pub fn reduce_item(
     over: Reduction,
     walk: &mut StateWalk,
@@ -71,19 +142,10 @@ pub fn reduce_item(
     ensures entered_bound { (unset entered.new ≤ unset entered.old) × (walk.new.table.words.now ≡ walk.old.table.words.now) }
     ensures same { SameWords edges.old edges.new }
 {
-    to_item(over.tracer.least, edges, item)?;
-    let owner = over.tracer.grammar.owner(item.production);
-    let states = begins(over.tracer, walk, state, item);
-    for from in states.iter() {
-        reduce_state(over, walk, edges, entered, stamps, from.0 as usize, owner)?;
-    }
-    Ok(())
+    trace_item(&over, walk, edges, entered, stamps, state, item)
 }
 
-// `trace_reduce_from_state`: the items of the state that can shift the nonterminal; where an item's suffix may derive the empty string, it is traced on,
-// once from this state: an item that has its stamp was.
-// An item is made of its record where it is read, here and below: two fields by their names, for which a function of crate trace would be no plainer.
-#[cycle(reduce_item_reduce_state)]
+// The state step, over what its caller holds.
 pub fn reduce_state(
     over: Reduction,
     walk: &mut StateWalk,
@@ -101,26 +163,7 @@ pub fn reduce_state(
     ensures entered_bound { (unset entered.new ≤ unset entered.old) × (walk.new.table.words.now ≡ walk.old.table.words.now) }
     ensures same { SameWords edges.old edges.new }
 {
-    if !enter(entered, state, nonterminal) {
-        return Ok(());
-    }
-    for read in over.tracer.table.items(state) {
-        let item = Item {
-            production: read.production,
-            index: read.index,
-        };
-        if !item.can_shift_nonterminal(over.tracer.grammar, nonterminal) {
-            continue;
-        }
-        let on = ends_at(over, item);
-        to_nonterminal(over.tracer.least, edges, on, item)?;
-        if !on || stamps.at(item) == state + 1 {
-            continue;
-        }
-        reduce_item(over, walk, edges, entered, stamps, state, item)?;
-        stamps.put(item, state + 1);
-    }
-    Ok(())
+    trace_from_state(&over, walk, edges, entered, stamps, state, nonterminal)
 }
 
 // `backtrace_reduce`: the words may hold anything before. The traced item itself gets no stamp: where it is met again, not all of its pairs are entered yet.
