@@ -79,6 +79,50 @@ pub fn label_count(labels: &[u16]) -> usize
     labels.len() / Example::LABEL_WORDS
 }
 
+// The item of a label, in labels that are lent by themselves.
+fn label_item(labels: &[u16], label: usize) -> Item
+    requires { label < length (labels_in labels.now) }
+    ensures { (result.production ≡ (label_at labels.now label).production) × (result.index ≡ (label_at labels.now label).index) }
+{
+    Item {
+        production: word(labels, Example::LABEL_WORDS * label + 1),
+        index: word(labels, Example::LABEL_WORDS * label + 2),
+    }
+}
+
+// The symbols before a label's cursor. Here and in the next two the answer is lent from the grammar alone, and outlives the labels: of a struct of both it would not.
+pub fn prefix_part<'a>(grammar: Grammar<'a>, labels: &[u16], label: usize) -> &'a [u16]
+    requires labels_fit { LabelsFit (productions_in grammar.words.now grammar.productions) labels.now }
+    requires label_in_bounds { label < length (labels_in labels.now) }
+    ensures { Part result.now (sets_of (productions_in grammar.entry.words.now grammar.entry.productions) (label_at labels.now label)).prefix }
+{
+    label_item(labels, label).prefix(grammar)
+}
+
+// The symbols after a label's cursor.
+pub fn suffix_part<'a>(grammar: Grammar<'a>, labels: &[u16], label: usize) -> &'a [u16]
+    requires labels_fit { LabelsFit (productions_in grammar.words.now grammar.productions) labels.now }
+    requires label_in_bounds { label < length (labels_in labels.now) }
+    ensures { Part result.now (sets_of (productions_in grammar.entry.words.now grammar.entry.productions) (label_at labels.now label)).suffix }
+{
+    label_item(labels, label).suffix(grammar)
+}
+
+// The symbol at the first label's cursor, or none: an empty part, as FIRST and the writers take a list, into which an Option would be opened.
+pub fn cursor_part<'a>(grammar: Grammar<'a>, labels: &[u16]) -> &'a [u16]
+    requires { LabelsFit (productions_in grammar.words.now grammar.productions) labels.now }
+    ensures { Part result.now (cursor_of (productions_in grammar.entry.words.now grammar.entry.productions) (labels_in labels.now)) }
+{
+    let first = label_item(labels, 0);
+    let symbols = grammar.symbols(first.production);
+    if first.can_shift(grammar) {
+        let from = Example::SYMBOL_WORDS * first.index;
+        &symbols[from..from + Example::SYMBOL_WORDS]
+    } else {
+        &symbols[..0]
+    }
+}
+
 // The labels of an example, innermost first, three words each: nonterminal, production, index. At least one and at most 33, in range of the grammar.
 // In words, since a side keeps them so (module outline of conflict_sides): labels of three fields each would be converted at every keeping.
 // Which one is asked is its number, in range at each call, as a type for it would have to hold the labels: prefixes are asked from the last label on, the cursor and the empty mark of the first alone, so that an iterator would be a second way to the same words.
@@ -110,10 +154,7 @@ impl<'a> Labels<'a> {
         requires { label < length (labels_in self.words.now) }
         ensures { (result.production ≡ (label_at self.entry.words.now label).production) × (result.index ≡ (label_at self.entry.words.now label).index) }
     {
-        Item {
-            production: word(self.words, Example::LABEL_WORDS * label + 1),
-            index: word(self.words, Example::LABEL_WORDS * label + 2),
-        }
+        label_item(self.words, label)
     }
 
     // The symbols before a label's cursor.
@@ -121,7 +162,7 @@ impl<'a> Labels<'a> {
         requires { label < length (labels_in self.words.now) }
         ensures { Part result.now (sets_of (productions_in self.entry.grammar.words.now self.entry.grammar.productions) (label_at self.entry.words.now label)).prefix }
     {
-        self.item(label).prefix(self.grammar)
+        prefix_part(self.grammar, self.words, label)
     }
 
     // The symbols after a label's cursor.
@@ -129,21 +170,14 @@ impl<'a> Labels<'a> {
         requires { label < length (labels_in self.words.now) }
         ensures { Part result.now (sets_of (productions_in self.entry.grammar.words.now self.entry.grammar.productions) (label_at self.entry.words.now label)).suffix }
     {
-        self.item(label).suffix(self.grammar)
+        suffix_part(self.grammar, self.words, label)
     }
 
-    // The symbol at the first label's cursor, or none: an empty part, as FIRST and the writers take a list, into which an Option would be opened.
+    // The symbol at the first label's cursor, or none.
     pub fn cursor(self) -> &'a [u16]
         ensures { Part result.now (cursor_of (productions_in self.entry.grammar.words.now self.entry.grammar.productions) (labels_in self.entry.words.now)) }
     {
-        let first = self.item(0);
-        let symbols = self.grammar.symbols(first.production);
-        if first.can_shift(self.grammar) {
-            let from = Example::SYMBOL_WORDS * first.index;
-            &symbols[from..from + Example::SYMBOL_WORDS]
-        } else {
-            &symbols[..0]
-        }
+        cursor_part(self.grammar, self.words)
     }
 
     // How many symbols stand before a label's cursor.
