@@ -66,7 +66,9 @@ impl<'a> Sources<'a> {
         ensures { MatchOption result (get_or self.entry.bytes.now edge 0 ≡ 0) (λ n. (get_or self.entry.bytes.now edge 0 ≡ suc n) × (n < nonterminal_limit)) }
     {
         let bytes = self.bytes;
-        (bytes[edge] as usize).checked_sub(1)
+        let source = bytes[edge] as usize;
+        // `checked_sub` makes a number for none as well, and each trial would wait for it.
+        if source == 0 { None } else { Some(source - 1) }
     }
 
     // An edge joins the walk: the nonterminal that it comes from counts one more. A walk has at most 33 edges, so a byte holds a count.
@@ -163,7 +165,8 @@ impl<'a> View<'a> {
         };
         match self.sources.source(edge) {
             Some(nonterminal) if counts[nonterminal] == 0 => {
-                self.sources.join(edge, counts);
+                // `join` would add to the count that was read, and the write would wait for that.
+                counts[nonterminal] = 1;
                 let link = word(self.latest, nonterminal);
                 self.seek(words, link, counts)
             }
