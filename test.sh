@@ -17,7 +17,8 @@ Runs all tests of the repository, or the parts that are named:
               against its stored output. It keeps what it passed, and takes minutes where much changed
   arrays      no function that classifying reaches has an array above 2,000 words (tests/arrays.py)
   c           every entry of the C header, called through the static library: tests/c/entries.c, and
-              the stored sample of what the Rust answers (tests/c/replay.c, tests/sample)
+              the stored sample of what the Rust answers (tests/c/replay.c, tests/sample). From outside
+              the archive asks for memcpy and memset alone
   tables      the library's built programs against the stored outputs of tables/ (tests/tables.sh)
   command     the command as its users run it: statuses, options, pipes, files that fail (tests/command.sh)
 
@@ -88,6 +89,9 @@ run_arrays() {
 
 run_c() {
     ./library.sh "${after_ci[@]}" "$work" >"$work/library" 2>&1 || { cat "$work/library"; exit 1; }
+    # What the archive asks of whoever links it, which need not have a C library.
+    asked=$(nm -u "$work/liblihvemur.a" | sed -n 's/^ *U //p' | sort | xargs)
+    [ "$asked" = 'memcpy memset' ] || { echo "test.sh: the archive asks from outside for $asked"; exit 1; }
     cc -std=c11 -Wall -Wextra -Werror -Iinclude tests/c/entries.c "$work/liblihvemur.a" -o "$work/c-entries"
     "$work/c-entries"
     cc -std=c11 -O1 -Wall -Wextra -Werror -Iinclude tests/c/replay.c "$work/liblihvemur.a" -o "$work/c-replay"
