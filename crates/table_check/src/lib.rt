@@ -23,7 +23,8 @@ use lr1_base::repr::{ProductionIndex, Refusal};
 use mark::{ALL, FEW, Marks};
 use table::{AcceptedTable, RECORD_WORDS};
 
-// What is gathered of the productions, in bytes that are lent for it.
+// What is gathered of the productions, in bytes that are lent for it. A part of its caller: what it is given would wait to be copied, which a small table feels.
+#[inline(always)]
 fn gather<'a>(
     s: Surveyed<'a>,
     held: &'a mut [u8; ProductionIndex::LIMIT],
