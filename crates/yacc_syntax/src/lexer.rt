@@ -100,7 +100,7 @@ fn closes_at(text: &[u8], at: usize) -> bool
     requires { at < length text.now }
     ensures { result ≡ closes (get_or text.now at 0) (drop (at + 1) text.now) }
 {
-    has_word(text, at, b"*/")
+    text[at] == b'*' && has_word(text, at + 1, b"/")
 }
 
 // The place behind a comment whose bytes begin at `at`, behind the `/*`. (A `find` would stop at both ends and have to ask again at which.)
@@ -169,14 +169,15 @@ fn piece_at(text: &[u8], at: usize) -> Piece
         return Piece::End;
     }
     match text[at] {
+        // White bytes and letters first: most bytes of a text are.
+        b if is_white(b) => Piece::Gap(at + 1),
+        b if is_letter(b) => Piece::Word(Word::Name, run_end(text, at + 1)),
         b'\'' => literal_at(text, at),
         b'%' => directive_at(text, at),
         b'/' => comment_at(text, at),
         b':' => Piece::Word(Word::Colon, at + 1),
         b'|' => Piece::Word(Word::Bar, at + 1),
         b';' => Piece::Word(Word::Semi, at + 1),
-        b if is_white(b) => Piece::Gap(at + 1),
-        b if is_letter(b) => Piece::Word(Word::Name, run_end(text, at + 1)),
         _ => Piece::Outside,
     }
 }

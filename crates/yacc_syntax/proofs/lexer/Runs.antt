@@ -106,13 +106,15 @@ begins_long (p ∷ ps) (b ∷ k) e = by (eqb p b) refl (λ f. begins_long ps k f
     by false q I = let z : ◌≡◌ {A = Bool} false true = rw (q, begins) at e in let o : ◌≡◌ {A = ℕ} 0 1 = cc in absurd (omega arith)
 
 -- `closes_at`
-closed_by : (b : ℕ) (bs : List ℕ) → begins (42 ∷ 47 ∷ []) (b ∷ bs) ≡ closes b bs
+pub closes_star : (b : ℕ) (bs : List ℕ) → b ≡ 42 → begins (47 ∷ []) bs ≡ closes b bs
 unfolding begins closes slash_next
-closed_by b [] = grind (arith, nat_tests)
-closed_by b (c ∷ bs) = grind (arith, nat_tests)
+closes_star b [] e = grind (arith, nat_tests)
+closes_star b (c ∷ bs) e = grind (arith, nat_tests)
 
-pub closes_is : (t : List ℕ) (at : ℕ) → at < length t → begins (42 ∷ 47 ∷ []) (drop at t) ≡ closes (get_or t at 0) (drop (at + 1) t)
-closes_is t at h = ap (begins (42 ∷ 47 ∷ [])) (drop-next t at h) ∙ closed_by (get_or t at 0) (drop (at + 1) t)
+pub closes_other : (b : ℕ) (bs : List ℕ) → (b ≡ 42 → ⊥) → eqb b 42 ≡ closes b bs
+unfolding closes slash_next
+closes_other b [] n = grind (arith, nat_tests)
+closes_other b (c ∷ bs) n = grind (arith, nat_tests)
 
 closes_long : (b : ℕ) (bs : List ℕ) → closes b bs ≡ true → 1 ≤ length bs
 unfolding closes slash_next

@@ -30,13 +30,13 @@ pub returns-in-59 : goal.returns-in-59
 unfolding Steps
 returns-in-59 c = at_semi c.args.text.now c.args.at c.if-text-at.false (kind_semi _ c.in-59.is)
 
-pub returns-in_default : goal.returns-in_default
+pub returns-then-is_white : goal.returns-then-is_white
 unfolding Steps
-returns-in_default c = at_white c.args.text.now c.args.at c.if-text-at.false (kind_white _ (sym c.is_white.ensures ∙ c.if-is_white.true))
+returns-then-is_white c = at_white c.args.text.now c.args.at c.if-text-at.false (kind_white _ (sym c.is_white.ensures ∙ c.if-is_white.true))
 
-pub returns-in_default-2 : goal.returns-in_default-2
+pub returns-then-is_letter : goal.returns-then-is_letter
 unfolding Steps
-returns-in_default-2 c = at_letter c.args.text.now c.args.at c.if-text-at.false (kind_letter _ (sym c.is_white.ensures ∙ c.if-is_white.false) (sym c.is_letter.ensures ∙ c.if-is_letter.true)) _ c.run_end.ensures
+returns-then-is_letter c = at_letter c.args.text.now c.args.at c.if-text-at.false (kind_letter _ (sym c.is_white.ensures ∙ c.if-is_white.false) (sym c.is_letter.ensures ∙ c.if-is_letter.true)) _ c.run_end.ensures
 
 pub returns-in_default-3 : goal.returns-in_default-3
 unfolding Steps
