@@ -99,7 +99,7 @@ impl<'a> Iterator for TokenIter<'a> {
 
     ghost remaining = { λ s. at_most (length s.text.now - s.at) };
 
-    // Part of each loop over the words: a `Token` that is handed back is written to memory, and what reads it there waits for each field.
+    // It becomes a part of each loop. A token that is handed back goes through memory, by small stores for which wider loads then wait.
     #[inline(always)]
     fn next(&mut self) -> Option<Token> {
         match next_token(self.text, self.at) {

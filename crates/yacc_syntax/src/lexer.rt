@@ -95,7 +95,7 @@ fn has_word(text: &[u8], at: usize, word: &[u8]) -> bool
     text[at..].starts_with(word)
 }
 
-// Does `*/` stand at `at`.
+// Does `*/` stand at `at`. (The star is tested alone first: most bytes of a comment are none.)
 fn closes_at(text: &[u8], at: usize) -> bool
     requires { at < length text.now }
     ensures { result ≡ closes (get_or text.now at 0) (drop (at + 1) text.now) }
@@ -169,7 +169,7 @@ fn piece_at(text: &[u8], at: usize) -> Piece
         return Piece::End;
     }
     match text[at] {
-        // White bytes and letters first: most bytes of a text are.
+        // White bytes and letters come first, since most bytes are such.
         b if is_white(b) => Piece::Gap(at + 1),
         b if is_letter(b) => Piece::Word(Word::Name, run_end(text, at + 1)),
         b'\'' => literal_at(text, at),
