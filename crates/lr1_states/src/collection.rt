@@ -59,8 +59,8 @@ pub fn find_states(
     }
 }
 
-// State 0, then all behind it.
-fn search_all(
+// All states and their edges.
+pub fn search_states(
     source: Source,
     start: usize,
     words: &mut [u16],
@@ -74,28 +74,4 @@ fn search_all(
 {
     first_state(source, start, words, begins)?;
     find_states(source, words, begins, kernel, edges)
-}
-
-// All states and their edges. Where it halts, there are as many states as before.
-pub fn search_states(
-    source: Source,
-    start: usize,
-    words: &mut [u16],
-    begins: &mut Begins,
-    kernel: &mut [u16],
-    edges: &mut Edges,
-) -> Result<(), Halt>
-    requires ready { Ready source start }
-    requires front { (item_limit * 5 ≤ length kernel.old) × (record_limit * 5 ≤ length words.old) × (get_or begins.old.items 0 0 ≡ 0) × (get_or edges.old.rows 0 0 ≡ 0) }
-    ensures states { OnErr result (begins.new.states ≡ begins.old.states) }
-    ensures found { (s : Ready source.entry start) → FoundAs s.T start (found_to s.T start s.room) words.new begins.new.items edges.new.list.words edges.new.rows begins.new.states result }
-{
-    let before = begins.states;
-    match search_all(source, start, words, begins, kernel, edges) {
-        Ok(()) => Ok(()),
-        Err(halt) => {
-            begins.states = before;
-            Err(halt)
-        }
-    }
 }

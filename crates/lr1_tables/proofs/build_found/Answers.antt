@@ -23,15 +23,15 @@ returns-in_err-search_states c =
     λ S. rw (q.1, q.2.0, q.2.1)
     (halts-answer _ _ (fits _ c.args.table.accepted) c.sizes_of-sizes.ensures c.read_grammar-grammar.ensures.0 (c.new-sets.ensures.terminals ∙ c.counts.ensures.terminals)
     c.read_grammar-grammar.ensures.1 (rw c.new-sets.ensures.terminals c.new-sets.ensures.is) c.requires.start_value.0
-    _ _ _ _ _ c.search_states.ensures.found c.in_err-search_states.was _ S)
+    _ _ _ _ _ c.search_states.ensures c.in_err-search_states.was _ S)
 
 pub write_found-requires : goal.write_found-requires
 write_found-requires c = (
   _,
   ended _ _ (fits _ c.args.table.accepted) c.sizes_of-sizes.ensures c.read_grammar-grammar.ensures.0 (c.new-sets.ensures.terminals ∙ c.counts.ensures.terminals)
-      c.read_grammar-grammar.ensures.1 (rw c.new-sets.ensures.terminals c.new-sets.ensures.is) c.requires.start_value.0 _ _ _ c.search_states.ensures.found c.in_ok-search_states.was,
+      c.read_grammar-grammar.ensures.1 (rw c.new-sets.ensures.terminals c.new-sets.ensures.is) c.requires.start_value.0 _ _ _ c.search_states.ensures c.in_ok-search_states.was,
 )
 
 pub returns : goal.returns
 returns c = c.write_found.ensures _ (ended _ _ (fits _ c.args.table.accepted) c.sizes_of-sizes.ensures c.read_grammar-grammar.ensures.0 (c.new-sets.ensures.terminals ∙ c.counts.ensures.terminals)
-    c.read_grammar-grammar.ensures.1 (rw c.new-sets.ensures.terminals c.new-sets.ensures.is) c.requires.start_value.0 _ _ _ c.search_states.ensures.found c.in_ok-search_states.was)
+    c.read_grammar-grammar.ensures.1 (rw c.new-sets.ensures.terminals c.new-sets.ensures.is) c.requires.start_value.0 _ _ _ c.search_states.ensures c.in_ok-search_states.was)
